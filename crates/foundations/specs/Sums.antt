@@ -1,0 +1,179 @@
+-- Finite sums f 0 + .. + f (n - 1), of natural numbers (`sum`) and of integers (`sumℤ`), and an integer sum over a list (`lsum`). Assumes nothing.
+use mathlib.Core.Path.{_≡_, refl, sym, ap, _∙_, subst}
+use mathlib.Core.Logic.{_⊎_, inl, inr, ⊎-elim, _≢_}
+use mathlib.Core.Bool.{Bool, true, false, not, _||_, _&&_, cond}
+use mathlib.Core.List.{List, [], _∷_, _++_}
+use Prim.Native.Nat.{ℕ, zero, suc, _+_, _*_, _-_, _≤_, _<_, zero-le}
+use native.Mathlib.Omega.{arith}
+use native.Mathlib.Numerals.{add-one}
+use native.Mathlib.Nat.{not-suc-le-zero, add-zero, add-suc}
+use lib.IntN.{ℤ, pos, negsuc, _+ℤ_, +ℤ-idl, +ℤ-idr, +ℤ-assoc}
+use lib.Dec.{T, eqb}
+use lib.Signed.{_≤ℤ_, ≤ℤ-refl}
+use Rattle.foundations.specs.Tests.{same?, same}
+use Rattle.foundations.specs.Int.{int, sums, plus, +ℤ-mono}
+
+-- ---- natural numbers
+
+unfoldable pub sum : ℕ → (ℕ → ℕ) → ℕ
+sum zero f = 0
+sum (suc n) f = sum n f + f n
+
+pub sum-more : (i : ℕ) (f : ℕ → ℕ) → sum (i + 1) f ≡ sum i f + f i
+unfolding sum
+sum-more i f = rw (add-one i)
+
+pub sum-ext : (n : ℕ) (f g : ℕ → ℕ) → ((i : ℕ) → i < n → f i ≡ g i) → sum n f ≡ sum n g
+unfolding sum
+sum-ext zero f g h = refl
+sum-ext (suc n) f g h = omega (arith, sum-ext n f g (λ i l. h i (omega arith)), h n (omega arith))
+
+pub sum-le : (n : ℕ) (f g : ℕ → ℕ) → ((i : ℕ) → i < n → f i ≤ g i) → sum n f ≤ sum n g
+unfolding sum
+sum-le zero f g h = zero-le
+sum-le (suc n) f g h = omega (arith, sum-le n f g (λ i l. h i (omega arith)), h n (omega arith))
+
+pub sum-add : (n : ℕ) (f g : ℕ → ℕ) → sum n (λ i. f i + g i) ≡ sum n f + sum n g
+unfolding sum
+sum-add zero f g = refl
+sum-add (suc n) f g = omega (arith, sum-add n f g)
+
+pub sum-zero : (n : ℕ) (f : ℕ → ℕ) → ((i : ℕ) → i < n → f i ≡ 0) → sum n f ≡ 0
+unfolding sum
+sum-zero zero f h = refl
+sum-zero (suc n) f h = omega (arith, sum-zero n f (λ i l. h i (omega arith)), h n (omega arith))
+
+pub sum-swap : (n m : ℕ) (f : ℕ → ℕ → ℕ) → sum n (λ i. sum m (λ j. f i j)) ≡ sum m (λ j. sum n (λ i. f i j))
+unfolding sum
+sum-swap zero m f = sym (sum-zero m (λ j. 0) (λ j l. refl))
+sum-swap (suc n) m f = ap (λ (z : ℕ). z + sum m (f n)) (sum-swap n m f) ∙ sym (sum-add m (λ j. sum n (λ i. f i j)) (f n))
+
+-- the first n and the next m
+pub sum-append : (n m : ℕ) (f : ℕ → ℕ) → sum (n + m) f ≡ sum n f + sum m (λ i. f (n + i))
+unfolding sum
+sum-append n zero f = rw add-zero (omega arith)
+sum-append n (suc m) f = rw add-suc (omega (arith, sum-append n m f))
+
+-- two functions that differ at c alone
+pub sum-point : (n : ℕ) (f g : ℕ → ℕ) (c : ℕ) → c < n → ((j : ℕ) → j < n → j ≢ c → f j ≡ g j) → sum n f + g c ≡ sum n g + f c
+unfolding sum
+sum-point zero f g c l e = absurd (not-suc-le-zero l)
+sum-point (suc n) f g c l e =
+    ⊎-elim
+    (λ q. let s : sum n f ≡ sum n g = sum-ext n f g (λ i lt. e i (omega arith) (λ p. omega arith)) in
+    omega (arith, s, ap f q, ap g q))
+    (λ q. omega (arith, sum-point n f g c (omega arith) (λ i lt. e i (omega arith)), e n (omega arith) (λ p. q (sym p))))
+    (same? c n)
+
+-- ---- an integer that counts only if a test holds
+
+abbrev pub pick : Bool → ℤ → ℤ
+pick true z = z
+pick false z = pos 0
+
+pub pick-comm : (a b : Bool) (z : ℤ) → pick a (pick b z) ≡ pick b (pick a z)
+pick-comm true true z = refl
+pick-comm true false z = refl
+pick-comm false true z = refl
+pick-comm false false z = refl
+
+pub pick-and : (a b : Bool) (z : ℤ) → pick (a && b) z ≡ pick a (pick b z)
+pick-and true b z = refl
+pick-and false b z = refl
+
+pub pick-add : (b : Bool) (x y : ℤ) → pick b (x +ℤ y) ≡ pick b x +ℤ pick b y
+pick-add true x y = refl
+pick-add false x y = refl
+
+pub pick-le : (b : Bool) (x y : ℤ) → (T b → x ≤ℤ y) → pick b x ≤ℤ pick b y
+pick-le true x y h = h tt
+pick-le false x y h = ≤ℤ-refl (pos 0)
+
+pub pick-eq : (b : Bool) (x y : ℤ) → (T b → x ≡ y) → pick b x ≡ pick b y
+pick-eq true x y h = h tt
+pick-eq false x y h = refl
+
+-- ---- integers
+
+unfoldable pub sumℤ : ℕ → (ℕ → ℤ) → ℤ
+sumℤ zero f = pos 0
+sumℤ (suc n) f = sumℤ n f +ℤ f n
+
+pub sumℤ-more : (i : ℕ) (f : ℕ → ℤ) → sumℤ (i + 1) f ≡ sumℤ i f +ℤ f i
+unfolding sumℤ
+sumℤ-more i f = rw (add-one i)
+
+pub sumℤ-ext : (n : ℕ) (f g : ℕ → ℤ) → ((i : ℕ) → i < n → f i ≡ g i) → sumℤ n f ≡ sumℤ n g
+unfolding sumℤ
+sumℤ-ext zero f g h = refl
+sumℤ-ext (suc n) f g h = rw (sumℤ-ext n f g (λ i l. h i (omega arith)), h n (omega arith))
+
+pub sumℤ-le : (n : ℕ) (f g : ℕ → ℤ) → ((i : ℕ) → i < n → f i ≤ℤ g i) → sumℤ n f ≤ℤ sumℤ n g
+unfolding sumℤ
+sumℤ-le zero f g h = ≤ℤ-refl _
+sumℤ-le (suc n) f g h = +ℤ-mono (sumℤ-le n f g (λ i l. h i (omega arith))) (h n (omega arith))
+
+pub sumℤ-add : (n : ℕ) (f g : ℕ → ℤ) → sumℤ n (λ i. f i +ℤ g i) ≡ sumℤ n f +ℤ sumℤ n g
+unfolding sumℤ
+sumℤ-add zero f g = refl
+sumℤ-add (suc n) f g = rw (sumℤ-add n f g) (simp sums)
+
+pub sumℤ-zero : (n : ℕ) → sumℤ n (λ i. pos 0) ≡ pos 0
+unfolding sumℤ
+sumℤ-zero zero = refl
+sumℤ-zero (suc n) = rw (sumℤ-zero n)
+
+pub sumℤ-swap : (n m : ℕ) (f : ℕ → ℕ → ℤ) → sumℤ n (λ i. sumℤ m (λ j. f i j)) ≡ sumℤ m (λ j. sumℤ n (λ i. f i j))
+unfolding sumℤ
+sumℤ-swap zero m f = sym (sumℤ-zero m)
+sumℤ-swap (suc n) m f = rw (sumℤ-swap n m f) (sym (sumℤ-add m (λ j. sumℤ n (λ i. f i j)) (f n)))
+
+pub sumℤ-append : (n m : ℕ) (f : ℕ → ℤ) → sumℤ (n + m) f ≡ sumℤ n f +ℤ sumℤ m (λ i. f (n + i))
+unfolding sumℤ
+sumℤ-append n zero f = rw add-zero (sym (+ℤ-idr (sumℤ n f)))
+sumℤ-append n (suc m) f = rw (add-suc, sumℤ-append n m f) (+ℤ-assoc (sumℤ n f) (sumℤ m (λ i. f (n + i))) (f (n + m)))
+
+pub pick-sumℤ : (b : Bool) (n : ℕ) (f : ℕ → ℤ) → pick b (sumℤ n f) ≡ sumℤ n (λ i. pick b (f i))
+pick-sumℤ true n f = refl
+pick-sumℤ false n f = sym (sumℤ-zero n)
+
+-- one index only
+sumℤ-none : (n k : ℕ) (f : ℕ → ℤ) → n ≤ k → sumℤ n (λ i. pick (eqb k i) (f i)) ≡ pos 0
+unfolding sumℤ
+sumℤ-none zero k f h = refl
+sumℤ-none (suc n) k f h = ⊎-elim (λ e. absurd (off (e .0))) (λ e. rw (sumℤ-none n k f (omega arith), e .1)) (same k n)
+  where
+    off : k ≡ n → ⊥
+    off e = omega arith
+
+pub sumℤ-one : (n k : ℕ) (f : ℕ → ℤ) → k < n → sumℤ n (λ i. pick (eqb k i) (f i)) ≡ f k
+unfolding sumℤ
+sumℤ-one zero k f h = absurd (not-suc-le-zero h)
+sumℤ-one (suc n) k f h = ⊎-elim
+    (λ e. rw (sumℤ-none n k f (omega (arith, e .0)), e .1, e .0) (+ℤ-idl (f n)))
+    (λ e. rw (sumℤ-one n k f (omega (arith, e .0)), e .1) (+ℤ-idr (f k)))
+    (same k n)
+
+-- two functions that differ at c alone
+pub sumℤ-point : (n : ℕ) (f g : ℕ → ℤ) (c : ℕ) → c < n → ((j : ℕ) → j < n → j ≢ c → f j ≡ g j) → sumℤ n f +ℤ g c ≡ sumℤ n g +ℤ f c
+unfolding sumℤ
+sumℤ-point zero f g c l e = absurd (not-suc-le-zero l)
+sumℤ-point (suc n) f g c l e =
+    ⊎-elim
+    (λ q. let s : sumℤ n f ≡ sumℤ n g = sumℤ-ext n f g (λ i lt. e i (omega arith) (λ p. omega arith)) in
+    omega (int, plus (sumℤ n f) (f n), plus (sumℤ n g) (g n), s, ap f q, ap g q))
+    (λ q. let r : sumℤ n f +ℤ g c ≡ sumℤ n g +ℤ f c = sumℤ-point n f g c (omega arith) (λ i lt. e i (omega arith)) in
+    let s : f n ≡ g n = e n (omega arith) (λ p. q (sym p)) in
+    omega (int, plus (sumℤ n f) (f n), plus (sumℤ n g) (g n), s))
+    (same? c n)
+
+-- ---- over a list
+
+unfoldable pub lsum : List ℕ → (ℕ → ℤ) → ℤ
+lsum [] f = pos 0
+lsum (x ∷ l) f = f x +ℤ lsum l f
+
+pub lsum-append : (l m : List ℕ) (f : ℕ → ℤ) → lsum (l ++ m) f ≡ lsum l f +ℤ lsum m f
+unfolding lsum
+lsum-append [] m f = sym (+ℤ-idl (lsum m f))
+lsum-append (x ∷ l) m f = rw (lsum-append l m f) (sym (+ℤ-assoc (f x) (lsum l f) (lsum m f)))
