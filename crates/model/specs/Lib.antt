@@ -1,0 +1,12 @@
+-- Paper 01 as definitions, in its order. This is the text that a reader must believe.
+pub mod Limits
+pub mod Bytes
+pub mod Weights
+pub mod Refusals
+pub mod Table
+pub mod Edges
+pub mod Tree
+pub mod Graph
+pub mod Order
+pub mod Pairs
+pub mod Calls
