@@ -1,9 +1,9 @@
 -- The rooted tree and the order of the subproblems. Paper 01, "Subproblems and their order".
 use mathlib.Core.List.{List, [], _∷_, _++_}
-use Prim.Native.Nat.{ℕ, zero, suc, _+_, _*_, _-_}
-use mathlib.Core.Bool.{Bool, true, false, _&&_, not}
-use lib.ListN.{length}
-use lib.Dec.{eqb}
+use Prim.Native.Nat.{ℕ, zero, suc, _+_, _*_, _-_, _/_, _%_}
+use mathlib.Core.Bool.{Bool, true, false, _&&_, not, cond}
+use lib.ListN.{length, getD}
+use lib.Dec.{eqb, leb}
 use Rattle.foundations.specs.Lists.{below, cat}
 use Rattle.foundations.specs.Members.{place}
 use Rattle.model.specs.Limits.{vertexLimit}
@@ -61,3 +61,19 @@ slot f v s = place s (choices f v)
 -- the number of subproblem (u, v, s): by u in postorder, then v ascending, then s
 unfoldable pub index : List ℕ → List ℕ → ℕ → ℕ → ℕ → ℕ
 index r f u v s = position r u * width f + (offset f v + slot f v s)
+
+-- ---- back: the u, v and s of subproblem k
+
+-- the last v below n whose subproblems begin at i or before
+unfoldable pub vertexAt : List ℕ → ℕ → ℕ → ℕ
+vertexAt f i zero = 0
+vertexAt f i (suc v) = cond (leb (offset f v) i) v (vertexAt f i v)
+
+unfoldable pub uAt : List ℕ → List ℕ → ℕ → ℕ
+uAt r f k = getD (postorder r) (k / width f) 0
+
+unfoldable pub vAt : List ℕ → ℕ → ℕ
+vAt f k = vertexAt f (k % width f) (count f)
+
+unfoldable pub sAt : List ℕ → ℕ → ℕ
+sAt f k = getD (choices f (vAt f k)) (k % width f - offset f (vAt f k)) 0

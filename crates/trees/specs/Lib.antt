@@ -1,0 +1,10 @@
+-- Laws of accepted trees: components, rooting, neighbours, postorder, positions.
+pub mod Items
+pub mod Components
+pub mod Rooting
+pub mod Accepted
+pub mod Neighbours
+pub mod Postorder
+pub mod Rooted
+pub mod Positions
+pub mod Visits

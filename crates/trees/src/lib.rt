@@ -1,0 +1,74 @@
+//! Postorder of a tree by its table of neighbours, and each vertex's place in it. The laws of accepted trees are in specs/.
+ghost use Prim.Native.Nat.{ℕ, _<_};
+ghost use mathlib.Core.List.{List, [], _∷_, _++_};
+ghost use Rattle.foundations.specs.Lists.{Holds};
+ghost use Rattle.trees.specs.Visits.{post, OrderOf, Different, Placed};
+
+// Vertices in an order: the first `len` places of `at`, and 255 in the others.
+pub struct Order {
+    pub at: [u8; 64],
+    pub len: usize,
+}
+
+// The order with one vertex more, or unchanged where it is full.
+fn push(o: Order, x: u8) -> Order
+    ensures { λ r. ⌜ ((l : List ℕ) → Holds 64 255 l (o .at) (o .len) → Holds 64 255 (l ++ (x ∷ [])) (r .at) (r .len)) ⌝ }
+{
+    let len = o.len;
+    if 64 <= len {
+        return o;
+    }
+    let mut r = o;
+    r.at[len] = x;
+    r.len = len + 1;
+    r
+}
+
+// The order with what lies below v, away from `from`, and then v; to a depth of k.
+fn visit(t: &[[u8; 8]; 64], v: u8, from: u8, k: usize, o: Order) -> Order
+    requires { ⌜ v < 64 ⌝ }
+    ensures { λ r. ⌜ ((l : List ℕ) → Holds 64 255 l (o .at) (o .len) → Holds 64 255 (l ++ post (now (t .entry)) k v from) (r .at) (r .len)) ⌝ }
+{
+    if k == 0 {
+        return o;
+    }
+    let mut r = o;
+    let mut i: usize = 0;
+    while i < 8 {
+        let w = t[v as usize][i];
+        if (w < 64) & (w != from) {
+            let q = visit(t, w, v, k - 1, r);
+            r = q;
+        }
+        i += 1;
+    }
+    push(r, v)
+}
+
+// The vertices in postorder from vertex 0, children ascending.
+pub fn postorder(t: &[[u8; 8]; 64]) -> Order
+    ensures { λ r. ⌜ OrderOf (now (t .entry)) (r .at) (r .len) ⌝ }
+{
+    let o = Order {
+        at: [255u8; 64],
+        len: 0,
+    };
+    visit(t, 0, 0, 64, o)
+}
+
+// Each vertex's place in an order of different vertices.
+pub fn places(o: Order) -> [u8; 64]
+    requires { ⌜ Different (o .at) (o .len) ⌝ }
+    ensures { λ r. ⌜ Placed (o .at) (o .len) r ⌝ }
+{
+    let at = o.at;
+    let len = o.len;
+    let mut p = [255u8; 64];
+    let mut i: usize = 0;
+    while i < len {
+        let x = at[i];
+        p[x as usize] = i as u8;
+        i += 1;
+    }
+    p
+}
