@@ -34,10 +34,10 @@ endB s n j = byteAt s (6 + 3 * n + 5 * j)
 abbrev pub edgeLabelAt : List ℕ → ℕ → ℕ → ℕ
 edgeLabelAt s n j = byteAt s (7 + 3 * n + 5 * j)
 
--- ---- item 3: the length, a mark, or the count
+-- ---- item 3: the length (8n - 2), a mark, or the count
 
 unfoldable pub sized : List ℕ → Bool
-sized s = (leb 1 (count s) && leb (count s) vertexLimit) && eqb (length s) (8 * count s - 2)
+sized s = (leb 1 (count s) && leb (count s) vertexLimit) && eqb (length s + 2) (8 * count s)
 
 unfoldable pub marked : List ℕ → ℕ → Bool
 marked s n = isMark s 0 treeMark && (every (λ v. isMark s (vertexStart v) vertexMark) n && every (λ j. isMark s (edgeStart n j) edgeMark) (n - 1))

@@ -32,9 +32,10 @@ pub record Ends (s : List ℕ) (n : ℕ) : Type 0 where
 pub sized-says : (s : List ℕ) → sized s ≡ true → Whole s (count s)
 unfolding sized
 sized-says s h =
-    let a = and-split (leb 1 (count s) && leb (count s) vertexLimit) (eqb (length s) (8 * count s - 2)) h in
+    let a = and-split (leb 1 (count s) && leb (count s) vertexLimit) (eqb (length s + 2) (8 * count s)) h in
     let b = and-split (leb 1 (count s)) (leb (count s) vertexLimit) (a .0) in
-    record { some = leb-true 1 (count s) (b .0); few = leb-true (count s) vertexLimit (b .1); long = eqb-true (length s) (8 * count s - 2) (a .1) }
+    let c : length s + 2 ≡ 8 * count s = eqb-true (length s + 2) (8 * count s) (a .1) in
+    record { some = leb-true 1 (count s) (b .0); few = leb-true (count s) vertexLimit (b .1); long = omega arith }
 
 pub ends-say : (s : List ℕ) (n : ℕ) → Whole s n → endsLow s n ≡ true → Ends s n
 unfolding endsLow

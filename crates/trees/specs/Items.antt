@@ -17,6 +17,10 @@ pub first-yes : (t r : Bool) (k x : ℕ) (rest : List Item) → r ≡ t → not 
 unfolding firstOf
 first-yes t r k x rest e h g = rw (← e, h) g
 
+pub first-none : 0 ≡ firstOf []
+unfolding firstOf
+first-none = refl
+
 -- ---- as a reader means it
 
 -- k is the number of the first item that applies

@@ -1,0 +1,3 @@
+-- Laws of the readers.
+pub mod TreeItems
+pub mod NeighbourSteps

@@ -1,0 +1,4 @@
+//! Readers over bytes: why a table or a tree is turned down (items 1 to 12), what stands in them, and a tree's neighbours.
+pub mod marks;
+pub mod neighbours;
+pub mod tree;
