@@ -1,3 +1,4 @@
 -- Laws of the readers.
 pub mod TreeItems
 pub mod NeighbourSteps
+pub mod Cases

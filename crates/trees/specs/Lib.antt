@@ -8,3 +8,4 @@ pub mod Postorder
 pub mod Rooted
 pub mod Positions
 pub mod Visits
+pub mod Cases

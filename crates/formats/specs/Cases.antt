@@ -1,0 +1,100 @@
+-- Cases of items 1 to 12 that the definitions compute. Assumes nothing.
+use mathlib.Core.Path.{_≡_, refl}
+use mathlib.Core.List.{List, [], _∷_, _++_}
+use Prim.Native.Nat.{ℕ}
+use Rattle.foundations.specs.Lists.{every, below, places, tab}
+use Rattle.model.specs.Bytes.{signed32}
+use Rattle.model.specs.Weights.{isForbidden, inRange, weightOk}
+use Rattle.model.specs.Refusals.{firstOf}
+use Rattle.model.specs.Table.{tableSized, tableMarked, rowOk, weightsOk, tableItem}
+use Rattle.model.specs.Edges.{component}
+use Rattle.model.specs.Tree.{sized, marked, labelsKnown, endsLow, closes, acyclic, degree, fewEdges, treeItem}
+use Rattle.model.specs.Graph.{joins, joinedBy, neighbours}
+
+-- ---- tables of one vertex label and one edge label
+
+-- with the weight of bytes a, b, c, d
+one : ℕ → ℕ → ℕ → ℕ → List ℕ
+one a b c d = 0xB1 ∷ 4 ∷ 1 ∷ 1 ∷ 0xB1 ∷ 5 ∷ a ∷ b ∷ c ∷ d ∷ 0xB1 ∷ 6 ∷ 0 ∷ 0 ∷ 0 ∷ 0 ∷ []
+
+-- 1,000,000; -1,000,000; the forbidden number
+limit-accepted : tableItem (one 0x40 0x42 0x0F 0) ≡ 0
+unfolding tableItem tableSized tableMarked weightsOk rowOk every firstOf weightOk isForbidden inRange signed32 one
+limit-accepted = refl
+
+low-limit-accepted : tableItem (one 0xC0 0xBD 0xF0 0xFF) ≡ 0
+unfolding tableItem tableSized tableMarked weightsOk rowOk every firstOf weightOk isForbidden inRange signed32 one
+low-limit-accepted = refl
+
+forbidden-accepted : tableItem (one 0 0 0 0x80) ≡ 0
+unfolding tableItem tableSized tableMarked weightsOk rowOk every firstOf weightOk isForbidden inRange signed32 one
+forbidden-accepted = refl
+
+-- 1,000,001; -1,000,001
+over-refused : tableItem (one 0x41 0x42 0x0F 0) ≡ 2
+unfolding tableItem tableSized tableMarked weightsOk rowOk every firstOf weightOk isForbidden inRange signed32 one
+over-refused = refl
+
+under-refused : tableItem (one 0xBF 0xBD 0xF0 0xFF) ≡ 2
+unfolding tableItem tableSized tableMarked weightsOk rowOk every firstOf weightOk isForbidden inRange signed32 one
+under-refused = refl
+
+-- ---- three vertices of label 0 with edges a-b and c-d
+
+three : ℕ → ℕ → ℕ → ℕ → List ℕ
+three a b c d = 0xB1 ∷ 1 ∷ 3 ∷ 0xB1 ∷ 2 ∷ 0 ∷ 0xB1 ∷ 2 ∷ 0 ∷ 0xB1 ∷ 2 ∷ 0 ∷ 0xB1 ∷ 3 ∷ a ∷ b ∷ 0 ∷ 0xB1 ∷ 3 ∷ c ∷ d ∷ 0 ∷ []
+
+path-accepted : treeItem 3 (three 0 1 1 2) 2 1 ≡ 0
+unfolding treeItem firstOf sized marked labelsKnown endsLow acyclic closes component fewEdges degree every three
+path-accepted = refl
+
+-- small plants, case 10
+cycle-refused : treeItem 3 (three 0 1 1 0) 2 1 ≡ 6
+unfolding treeItem firstOf sized marked labelsKnown endsLow acyclic closes component fewEdges degree every three
+cycle-refused = refl
+
+end-refused : treeItem 3 (three 0 1 0 3) 2 1 ≡ 5
+unfolding treeItem firstOf sized marked labelsKnown endsLow acyclic closes component fewEdges degree every three
+end-refused = refl
+
+-- the same found; and a label that the table lacks
+found-cycle-refused : treeItem 8 (three 0 1 1 0) 2 1 ≡ 11
+unfolding treeItem firstOf sized marked labelsKnown endsLow acyclic closes component fewEdges degree every three
+found-cycle-refused = refl
+
+label-refused : treeItem 3 (three 0 1 1 0) 0 1 ≡ 4
+unfolding treeItem firstOf sized marked labelsKnown endsLow acyclic closes component fewEdges degree every three
+label-refused = refl
+
+-- ---- a centre with leaves, its edges written from the last leaf to the first
+
+leaves : List ℕ
+leaves = 0xB1 ∷ 2 ∷ 0 ∷ 0xB1 ∷ 2 ∷ 0 ∷ 0xB1 ∷ 2 ∷ 0 ∷ 0xB1 ∷ 2 ∷ 0 ∷ []
+
+edge : ℕ → List ℕ
+edge x = 0xB1 ∷ 3 ∷ 0 ∷ x ∷ 0 ∷ []
+
+star8 : List ℕ
+unfolding leaves edge
+star8 = (0xB1 ∷ 1 ∷ 9 ∷ 0xB1 ∷ 2 ∷ 0 ∷ []) ++ leaves ++ leaves ++ edge 8 ++ edge 7 ++ edge 6 ++ edge 5 ++ edge 4 ++ edge 3 ++ edge 2 ++ edge 1
+
+star9 : List ℕ
+unfolding leaves edge
+star9 = (0xB1 ∷ 1 ∷ 10 ∷ 0xB1 ∷ 2 ∷ 0 ∷ 0xB1 ∷ 2 ∷ 0 ∷ []) ++ leaves ++ leaves ++ edge 9 ++ edge 8 ++ edge 7 ++ edge 6 ++ edge 5 ++ edge 4 ++ edge 3 ++ edge 2 ++ edge 1
+
+eight-accepted : treeItem 3 star8 2 1 ≡ 0
+unfolding treeItem firstOf sized marked labelsKnown endsLow acyclic closes component fewEdges degree every star8
+eight-accepted = refl
+
+nine-refused : treeItem 3 star9 2 1 ≡ 7
+unfolding treeItem firstOf sized marked labelsKnown endsLow acyclic closes component fewEdges degree every star9
+nine-refused = refl
+
+nine-found-refused : treeItem 8 star9 2 1 ≡ 12
+unfolding treeItem firstOf sized marked labelsKnown endsLow acyclic closes component fewEdges degree every star9
+nine-found-refused = refl
+
+-- neighbours ascend, in whatever order the edges are written
+star-neighbours : neighbours star8 0 ≡ 1 ∷ 2 ∷ 3 ∷ 4 ∷ 5 ∷ 6 ∷ 7 ∷ 8 ∷ []
+unfolding neighbours below joinedBy joins star8
+star-neighbours = refl
