@@ -1,4 +1,7 @@
--- Laws of the readers.
+-- Laws of the readers: tables, trees, neighbours, all inputs of a call; and cases that the definitions compute.
+pub mod Table
 pub mod TreeItems
 pub mod NeighbourSteps
-pub mod Cases
+pub mod Inputs
+pub mod TableCases
+pub mod TreeCases

@@ -1,4 +1,6 @@
 //! Readers over bytes: why a table or a tree is turned down (items 1 to 12), what stands in them, and a tree's neighbours.
+pub mod inputs;
 pub mod marks;
 pub mod neighbours;
+pub mod table;
 pub mod tree;

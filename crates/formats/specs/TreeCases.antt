@@ -1,43 +1,12 @@
--- Cases of items 1 to 12 that the definitions compute. Assumes nothing.
+-- Trees whose items, and whose neighbours, the definitions compute. Assumes nothing.
 use mathlib.Core.Path.{_≡_, refl}
 use mathlib.Core.List.{List, [], _∷_, _++_}
 use Prim.Native.Nat.{ℕ}
-use Rattle.foundations.specs.Lists.{every, below, places, tab}
-use Rattle.model.specs.Bytes.{signed32}
-use Rattle.model.specs.Weights.{isForbidden, inRange, weightOk}
+use Rattle.foundations.specs.Lists.{every, below}
 use Rattle.model.specs.Refusals.{firstOf}
-use Rattle.model.specs.Table.{tableSized, tableMarked, rowOk, weightsOk, tableItem}
 use Rattle.model.specs.Edges.{component}
 use Rattle.model.specs.Tree.{sized, marked, labelsKnown, endsLow, closes, acyclic, degree, fewEdges, treeItem}
 use Rattle.model.specs.Graph.{joins, joinedBy, neighbours}
-
--- ---- tables of one vertex label and one edge label
-
--- with the weight of bytes a, b, c, d
-one : ℕ → ℕ → ℕ → ℕ → List ℕ
-one a b c d = 0xB1 ∷ 4 ∷ 1 ∷ 1 ∷ 0xB1 ∷ 5 ∷ a ∷ b ∷ c ∷ d ∷ 0xB1 ∷ 6 ∷ 0 ∷ 0 ∷ 0 ∷ 0 ∷ []
-
--- 1,000,000; -1,000,000; the forbidden number
-limit-accepted : tableItem (one 0x40 0x42 0x0F 0) ≡ 0
-unfolding tableItem tableSized tableMarked weightsOk rowOk every firstOf weightOk isForbidden inRange signed32 one
-limit-accepted = refl
-
-low-limit-accepted : tableItem (one 0xC0 0xBD 0xF0 0xFF) ≡ 0
-unfolding tableItem tableSized tableMarked weightsOk rowOk every firstOf weightOk isForbidden inRange signed32 one
-low-limit-accepted = refl
-
-forbidden-accepted : tableItem (one 0 0 0 0x80) ≡ 0
-unfolding tableItem tableSized tableMarked weightsOk rowOk every firstOf weightOk isForbidden inRange signed32 one
-forbidden-accepted = refl
-
--- 1,000,001; -1,000,001
-over-refused : tableItem (one 0x41 0x42 0x0F 0) ≡ 2
-unfolding tableItem tableSized tableMarked weightsOk rowOk every firstOf weightOk isForbidden inRange signed32 one
-over-refused = refl
-
-under-refused : tableItem (one 0xBF 0xBD 0xF0 0xFF) ≡ 2
-unfolding tableItem tableSized tableMarked weightsOk rowOk every firstOf weightOk isForbidden inRange signed32 one
-under-refused = refl
 
 -- ---- three vertices of label 0 with edges a-b and c-d
 

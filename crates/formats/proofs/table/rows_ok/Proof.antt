@@ -1,0 +1,57 @@
+-- `rows_ok` meets its contract: the test is gathered over the rows. Assumes nothing.
+use borrow.Author.Needs.{needs}
+use mathlib.Core.Path.{_≡_, refl}
+use Prim.Native.Nat.{_+_, _*_, _-_, _≤_}
+use native.Mathlib.Omega.{arith}
+use Rattle.foundations.specs.Lists.{every, every-step, every-end}
+use Rattle.model.specs.Table.{rowLength, rowOk}
+use Rattle.formats.proofs.table.rows_ok.Statement.{statement}
+use Rattle.formats.proofs.table.rows_ok.Tie as tie
+
+abbrev Inv-loop : tie.InvT-loop
+Inv-loop table start k ok₀ i₀ ok i = (i ≤ k) × (ok ≡ every (λ n. rowOk table (start + n * rowLength k) k) i)
+
+abbrev μ-loop : tie.MeasureT-loop
+μ-loop table start k ok₀ i₀ ok i = k - i
+
+loop-holds : tie.Need-loop-holds Inv-loop μ-loop
+unfolding every
+loop-holds c = (omega arith, refl)
+
+row-at-requires : tie.Need-row-at-requires Inv-loop μ-loop
+row-at-requires c κs = search needs
+
+row-ok-requires : tie.Need-row-ok-requires Inv-loop μ-loop
+row-ok-requires c κs = search needs
+
+add-i : tie.Need-add-i Inv-loop μ-loop
+add-i c = search needs
+
+loop-less : tie.Need-loop-less Inv-loop μ-loop
+loop-less c = search needs
+
+loop-again : tie.Need-loop-again Inv-loop μ-loop
+loop-again c =
+    let l = c .before .before .before in
+    let a = l .before .before .args in
+    (omega arith, every-step (λ n. rowOk (a .table .now) (a .start + n * rowLength (a .k)) (a .k)) (l .loop .i) (l .loop .ok) (c .row-ok .result) (l .loop .inv .1) (rw (c .row-ok .ensures, c .before .row-at .ensures .is)))
+
+returns : tie.Need-returns Inv-loop μ-loop
+returns c =
+    let l = c .before in
+    let a = l .before .before .args in
+    every-end (λ n. rowOk (a .table .now) (a .start + n * rowLength (a .k)) (a .k)) (l .loop .i) (a .k) (l .loop .ok) (l .loop .inv .1) (omega arith)
+
+pub rows-ok-spec : {M : Type 1} → statement M
+rows-ok-spec =
+    tie.close
+    (tie.spec
+    Inv-loop
+    μ-loop
+    loop-holds
+    row-at-requires
+    row-ok-requires
+    add-i
+    loop-less
+    loop-again
+    returns)
