@@ -42,7 +42,7 @@ edgeRowMark = 0xB1 ∷ 0x06 ∷ []
 abbrev pub word : ℕ → ℕ → ℕ → ℕ → ℕ
 word b0 b1 b2 b3 = b0 + 256 * b1 + 65536 * b2 + 16777216 * b3
 
--- the integer that 32 bits stand for, and the bits of an integer
+-- the integer that 32 bits stand for, and the bits of a 32-bit integer
 unfoldable pub signed32 : ℕ → ℤ
 signed32 n = cond (ltb n 2147483648) (pos n) (negsuc (4294967295 - n))
 
@@ -59,7 +59,7 @@ int32At s i = int32 (byteAt s i) (byteAt s (i + 1)) (byteAt s (i + 2)) (byteAt s
 
 -- the bytes with the number n, or the integer z, at place i
 unfoldable pub putWord : List ℕ → ℕ → ℕ → List ℕ
-putWord s i n = set (set (set (set s i (n % 256)) (i + 1) (n / 256 % 256)) (i + 2) (n / 65536 % 256)) (i + 3) (n / 16777216)
+putWord s i n = set (set (set (set s i (n % 256)) (i + 1) ((n / 256) % 256)) (i + 2) ((n / 65536) % 256)) (i + 3) (n / 16777216)
 
 abbrev pub putInt32 : List ℕ → ℕ → ℤ → List ℕ
 putInt32 s i z = putWord s i (bits32 z)

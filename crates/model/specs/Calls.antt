@@ -1,4 +1,4 @@
--- The items that each kind of call tests, in its order. Paper 01, last paragraph of "Why a call is turned down".
+-- Items 1 to 12, which every call tests first, in their order. Paper 01, last paragraph of "Why a call is turned down".
 use mathlib.Core.List.{List, [], _∷_, _++_}
 use Prim.Native.Nat.{ℕ}
 use Rattle.model.specs.Refusals.{Item, item, firstOf}

@@ -1,4 +1,4 @@
--- Paper 01 as definitions, in its order. This is the text that a reader must believe.
+-- Paper 01 as definitions. This is the text that a reader must believe.
 pub mod Limits
 pub mod Bytes
 pub mod Weights

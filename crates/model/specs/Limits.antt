@@ -1,4 +1,4 @@
--- The numbers that paper 01 fixes, each named once. They change later; nothing else repeats them.
+-- The numbers that paper 01 fixes, each named once for the definitions; the code has the same in src/lib.rt.
 use Prim.Native.Nat.{ℕ, _*_}
 use lib.IntN.{ℤ, pos, negsuc}
 
@@ -6,10 +6,14 @@ use lib.IntN.{ℤ, pos, negsuc}
 abbrev pub weightLimit : ℕ
 weightLimit = 1000000
 
-abbrev pub forbidden : ℤ
-forbidden = negsuc 2147483647
+-- (`negsuc n` is -1 - n)
+abbrev pub forbiddenRank : ℕ
+forbiddenRank = 2147483647
 
--- no stored value is greater: 64 vertices and 63 edges of the greatest weight
+abbrev pub forbidden : ℤ
+forbidden = negsuc forbiddenRank
+
+-- no stored value is greater: 127 is for 64 vertices and 63 edges of the greatest weight
 abbrev pub ceiling : ℕ
 ceiling = 127 * weightLimit
 

@@ -13,7 +13,7 @@ use Rattle.model.specs.Graph.{edges, joined, neighbours}
 
 -- ---- rooted at vertex 0
 
--- the parent of v, and of vertex 0 itself
+-- the parent of v; vertex 0 is its own
 unfoldable pub parent : List ℕ → ℕ → ℕ
 parent s v = parentIn (endA s (count s)) (endB s (count s)) (edges s) 0 v
 
@@ -33,7 +33,7 @@ postorderFrom s (suc k) v = cat (λ w. postorderFrom s k w) (children s v) ++ (v
 unfoldable pub postorder : List ℕ → List ℕ
 postorder s = postorderFrom s vertexLimit 0
 
--- where u stands in it
+-- where u stands in it (not a job's position, which counts subproblems)
 unfoldable pub position : List ℕ → ℕ → ℕ
 position s u = place u (postorder s)
 
@@ -76,4 +76,4 @@ unfoldable pub vAt : List ℕ → ℕ → ℕ
 vAt f k = vertexAt f (k % width f) (count f)
 
 unfoldable pub sAt : List ℕ → ℕ → ℕ
-sAt f k = getD (choices f (vAt f k)) (k % width f - offset f (vAt f k)) 0
+sAt f k = getD (choices f (vAt f k)) ((k % width f) - offset f (vAt f k)) 0

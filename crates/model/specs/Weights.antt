@@ -1,4 +1,4 @@
--- A weight is forbidden or a number. No definition adds to the forbidden number. Paper 01, "Bytes of a table and a layout" and "The mapping".
+-- A weight is forbidden or a number, so that nothing is ever added to the forbidden number. Paper 01, "Bytes of a table and a layout" and "The mapping".
 use Prim.Native.Nat.{ℕ, _≤_}
 use mathlib.Core.Path.{_≡_}
 use mathlib.Core.Bool.{Bool, true, false, cond, _&&_, _||_}
@@ -6,13 +6,13 @@ use lib.Dec.{eqb}
 use lib.IntN.{ℤ, pos, negsuc, _+ℤ_, negℤ}
 use lib.Signed.{leZ, ltZ, _≤ℤ_}
 use Rattle.foundations.specs.Int.{up}
-use Rattle.model.specs.Limits.{weightLimit, ceiling}
+use Rattle.model.specs.Limits.{weightLimit, ceiling, forbiddenRank}
 
 -- ---- a number of 4 bytes as a weight
 
 unfoldable pub isForbidden : ℤ → Bool
 isForbidden (pos n) = false
-isForbidden (negsuc n) = eqb n 2147483647
+isForbidden (negsuc n) = eqb n forbiddenRank
 
 unfoldable pub inRange : ℤ → Bool
 inRange z = leZ (negℤ (pos weightLimit)) z && leZ z (pos weightLimit)
@@ -48,7 +48,7 @@ maxW none y = y
 maxW (some a) none = some a
 maxW (some a) (some b) = cond (leZ a b) (some b) (some a)
 
--- ---- the arithmetic of one subproblem
+-- ---- the arithmetic of one subproblem, on numbers that are not forbidden
 
 -- the gain of a branch: the greater of 0 and its edge weight plus its value, a natural number
 abbrev pub gainOf : ℤ → ℤ → ℕ

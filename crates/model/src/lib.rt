@@ -18,6 +18,6 @@ impl Limits {
     pub const VERTICES: u8 = 64;
 
     pub const DEGREE: u8 = 8;
-    // What stands in a free place: no vertex.
+    // What stands where there is no vertex: in a free place, and for a vertex without partner.
     pub const NONE: u8 = 255;
 }

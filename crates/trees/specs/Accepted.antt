@@ -89,6 +89,12 @@ pub record Passed (s : List ℕ) (K L : ℕ) : Type 0 where
   pub tree : acyclic s (count s) ≡ true
   pub degrees : fewEdges s (count s) ≡ true
 
+-- a tree that passes for some numbers of labels
+pub record Sound (s : List ℕ) : Type 0 where
+  pub K : ℕ
+  pub L : ℕ
+  pub passed : Passed s K L
+
 pub tree-numbered : (first : ℕ) (s : List ℕ) (K L : ℕ) → 1 ≤ first → Numbered (treeItems first s K L)
 tree-numbered first s K L h = more h (more {k = first + 1} (omega arith) (more {k = first + 2} (omega arith) (more {k = first + 3} (omega arith) (more {k = first + 4} (omega arith) end))))
 
