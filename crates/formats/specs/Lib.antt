@@ -3,5 +3,6 @@ pub mod Table
 pub mod TreeItems
 pub mod NeighbourSteps
 pub mod Inputs
+pub mod Split
 pub mod TableCases
 pub mod TreeCases

@@ -1,6 +1,8 @@
 //! Readers over bytes: why a table or a tree is turned down (items 1 to 12), what stands in them, and a tree's neighbours.
+pub mod bytes;
 pub mod inputs;
 pub mod marks;
 pub mod neighbours;
+pub mod split;
 pub mod table;
 pub mod tree;

@@ -1,4 +1,5 @@
 //! Neighbours as eight places for each of 64 vertices, and in the same places the labels of the edges to them.
+use crate::bytes::byte_or_zero;
 use crate::tree::end_a;
 use crate::tree::end_b;
 use crate::tree::vertex_count;
@@ -106,12 +107,6 @@ fn edge_between(s: &[u8], n: usize, v: u8, w: u8) -> usize
         j += 1;
     }
     e
-}
-
-fn byte_or_zero(s: &[u8], at: usize) -> u8
-    ensures { λ r. ⌜ r ≡ byteAt (now (s .entry)) at ⌝ }
-{
-    if at < s.len() { s[at] } else { 0 }
 }
 
 // The label of the edge to the neighbour w of v, 255 for a free place.

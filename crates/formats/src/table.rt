@@ -15,7 +15,7 @@ fn row_length(k: u8) -> usize
 }
 
 // A block of k rows.
-fn rows_length(k: u8) -> usize
+pub fn rows_length(k: u8) -> usize
     ensures { λ r. ⌜ RowsLength k r ⌝ }
 {
     (k as usize) * row_length(k)

@@ -10,3 +10,4 @@ pub mod Graph
 pub mod Order
 pub mod Pairs
 pub mod Calls
+pub mod Input

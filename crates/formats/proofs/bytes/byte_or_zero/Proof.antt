@@ -3,8 +3,8 @@ use mathlib.Core.Path.{sym}
 use lib.ListN.{List·getD-eq-default}
 use native.Mathlib.Omega.{arith}
 use borrow.Author.Needs.{needs}
-use Rattle.formats.proofs.neighbours.byte_or_zero.Statement.{statement}
-use Rattle.formats.proofs.neighbours.byte_or_zero.Tie as tie
+use Rattle.formats.proofs.bytes.byte_or_zero.Statement.{statement}
+use Rattle.formats.proofs.bytes.byte_or_zero.Tie as tie
 
 shared-slice-read-result : tie.Need-shared-slice-read-result
 shared-slice-read-result c = search needs

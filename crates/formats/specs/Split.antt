@@ -1,0 +1,46 @@
+-- What the split of the match program's input says, and that its two numbers give the model's parts. Assumes nothing.
+use mathlib.Core.Path.{_≡_, refl, sym, ap, _∙_}
+use mathlib.Core.Logic.{⊎-elim}
+use mathlib.Core.List.{List, []}
+use Prim.Native.Nat.{ℕ, _+_, _-_, _≤_, _<_, min}
+use native.Mathlib.Omega.{arith}
+use lib.ListN.{length, take, drop, length-drop, drop-of-length-le}
+use lib.Seq.{take-all, drop-drop}
+use Rattle.foundations.specs.Tests.{less?}
+use Rattle.model.specs.Table.{tableLength}
+use Rattle.model.specs.Input.{tablePart, afterTable, treeLength, recordedPart, foundPart}
+
+-- the recorded tree begins at a, the found one at b
+pub record SplitAt (input : List ℕ) (a b : ℕ) : Type 0 where
+  pub ordered : a ≤ b
+  pub within : b ≤ length input
+  pub table : take a input ≡ tablePart input
+  pub recorded : take (b - a) (drop a input) ≡ recordedPart input
+  pub found : drop b input ≡ foundPart input
+
+-- to take or drop more than there is, is to take or drop all
+take-min : (n : ℕ) (l : List ℕ) → take (min n (length l)) l ≡ take n l
+take-min n l = ⊎-elim
+    (λ h. let e : min n (length l) ≡ n = omega arith in rw e)
+    (λ h. let e : min n (length l) ≡ length l = omega arith in let s : length l ≤ length l = omega arith in rw (e, take-all n l h, take-all (length l) l s))
+    (less? n (length l))
+
+drop-min : (n : ℕ) (l : List ℕ) → drop (min n (length l)) l ≡ drop n l
+drop-min n l = ⊎-elim
+    (λ h. let e : min n (length l) ≡ n = omega arith in rw e)
+    (λ h. let e : min n (length l) ≡ length l = omega arith in let s : length l ≤ length l = omega arith in rw e (drop-of-length-le l {i = length l} s ∙ sym (drop-of-length-le l {i = n} h)))
+    (less? n (length l))
+
+pub split-at : (input : List ℕ) (a b : ℕ) → a ≡ min (tableLength input) (length input) → b ≡ a + min (treeLength (drop a input)) (length (drop a input)) → SplitAt input a b
+unfolding tablePart afterTable recordedPart foundPart
+split-at input a b e g =
+    let d : drop a input ≡ drop (tableLength input) input = rw e (drop-min (tableLength input) input) in
+    let l : length (drop a input) ≡ length input - a = length-drop a input in
+    let m : b - a ≡ min (treeLength (drop a input)) (length (drop a input)) = omega arith in
+    record {
+      ordered = omega arith;
+      within = omega arith;
+      table = rw e (take-min (tableLength input) input);
+      recorded = rw m (take-min (treeLength (drop a input)) (drop a input)) ∙ ap (λ (y : List ℕ). take (treeLength y) y) d;
+      found = rw g (sym (drop-drop (min (treeLength (drop a input)) (length (drop a input))) a input) ∙ drop-min (treeLength (drop a input)) (drop a input)) ∙ ap (λ (y : List ℕ). drop (treeLength y) y) d;
+    }

@@ -1,0 +1,45 @@
+//! Where the table, the recorded tree and the found tree stand in the match program's input.
+use crate::bytes::byte_or_zero;
+use crate::table::rows_length;
+ghost use Prim.Native.Nat.{min};
+ghost use mathlib.Core.Path.{_≡_};
+ghost use Rattle.model.specs.Table.{tableLength};
+ghost use Rattle.model.specs.Input.{treeLength};
+ghost use Rattle.formats.specs.Split.{SplitAt};
+
+// Where the recorded and the found tree begin.
+pub struct Parts {
+    pub recorded: usize,
+    pub found: usize,
+}
+
+fn lesser(a: usize, b: usize) -> usize
+    ensures { λ r. ⌜ r ≡ min a b ⌝ }
+{
+    if a <= b { a } else { b }
+}
+
+fn table_length(input: &[u8]) -> usize
+    ensures { λ r. ⌜ r ≡ tableLength (now (input .entry)) ⌝ }
+{
+    let k = byte_or_zero(input, 2);
+    let l = byte_or_zero(input, 3);
+    4 + rows_length(k) + rows_length(l)
+}
+
+fn tree_length(s: &[u8]) -> usize
+    ensures { λ r. ⌜ r ≡ treeLength (now (s .entry)) ⌝ }
+{
+    let n = byte_or_zero(s, 2) as usize;
+    if n == 0 { s.len() } else { 8 * n - 2 }
+}
+
+// The parts of the input, whatever it is.
+pub fn split(input: &[u8]) -> Parts
+    ensures { λ r. ⌜ SplitAt (now (input .entry)) (r .recorded) (r .found) ⌝ }
+{
+    let recorded = lesser(table_length(input), input.len());
+    let rest = &input[recorded..];
+    let found = recorded + lesser(tree_length(rest), rest.len());
+    Parts { recorded, found }
+}
