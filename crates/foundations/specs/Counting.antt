@@ -1,13 +1,13 @@
 -- How many numbers below k pass a test, and the pigeonhole. Assumes nothing.
-use mathlib.Core.Path.{_≡_, refl, sym, ap, _∙_, subst}
-use mathlib.Core.Logic.{_⊎_, inl, inr, ⊎-elim, _≢_}
+use mathlib.Core.Path.{_≡_, refl, sym, ap, _∙_}
+use mathlib.Core.Logic.{⊎-elim, _≢_}
 use mathlib.Core.Bool.{Bool, true, false, _||_, cond}
-use Prim.Native.Nat.{ℕ, zero, suc, _+_, _*_, _-_, _≤_, _<_}
+use Prim.Native.Nat.{ℕ, zero, suc, _+_, _≤_, _<_}
 use native.Mathlib.Omega.{arith}
 use native.Mathlib.Decide.{ℕ-discrete, decLt}
 use lib.Dec.{T, eqb}
-use borrow.Author.Tests.{eqb-true, eqb-false, eq-eqb, ne-eqb}
-use Rattle.foundations.specs.Tests.{true→T}
+use borrow.Author.Tests.{eq-eqb, ne-eqb}
+use Rattle.foundations.specs.Tests.{T→true, not-T→false, somewhere}
 use Rattle.foundations.specs.Sums.{sum}
 
 -- ---- counting
@@ -58,6 +58,23 @@ cnt-two p x y (suc k) l m e f = go (ℕ-discrete y k) (λ m. cnt-two p x y k l m
     go : Dec (y ≡ k) → (y < k → 2 ≤ cnt p k) → 2 ≤ cnt p k + cond (p k) 1 0
     go (yes q) r = let h : 1 ≤ cnt p k = cnt-one p x k (omega arith) e in let g : p k ≡ true = rw (← q) f in rw g (omega arith)
     go (no q) r = let h : 2 ≤ cnt p k = r (omega arith) in omega arith
+
+-- a test that holds at one place at most
+pub cnt-few : (p : ℕ → Bool) (n : ℕ) → ((i j : ℕ) → i < n → j < n → T (p i) → T (p j) → i ≡ j) → cnt p n ≤ 1
+cnt-few p n h = ⊎-elim
+    (λ q. let e : cnt p n ≡ cnt (λ x. false) n + 1 = cnt-drop p (λ x. false) (q .0) n (q .1) (T→true _ (q .2)) refl (λ x l ne. not-T→false (p x) (λ t. ne (h x (q .0) l (q .1) t (q .2)))) in
+    let z : cnt (λ x. false) n ≡ 0 = cnt-none (λ x. false) n (λ x l. refl) in
+    omega arith)
+    (λ f. let z : cnt p n ≡ 0 = cnt-none p n f in omega arith)
+    (somewhere n p)
+
+pub few-cnt : (p : ℕ → Bool) (n : ℕ) → cnt p n ≤ 1 → (i j : ℕ) → i < n → j < n → T (p i) → T (p j) → i ≡ j
+few-cnt p n h i j li lj ti tj = choose (decLt i j) (decLt j i)
+  where
+    choose : Dec (i < j) → Dec (j < i) → i ≡ j
+    choose (yes l) d = let q = cnt-two p i j n l lj (T→true _ ti) (T→true _ tj) in absurd (omega arith)
+    choose (no l) (yes d) = let q = cnt-two p j i n d li (T→true _ tj) (T→true _ ti) in absurd (omega arith)
+    choose (no l) (no d) = omega arith
 
 -- the tests' sum: a number counted where each of two tests may hold
 pub sum-count : (n : ℕ) (f : ℕ → ℕ) (p : ℕ → Bool) → sum n (λ i. f i + cond (p i) 1 0) ≡ sum n f + cnt p n

@@ -1,16 +1,15 @@
 -- Lists that loops build: tests over a range, tables filled from the front, numbers that pass a test, fixed places. Assumes nothing.
-use mathlib.Core.Path.{_≡_, refl, sym, ap, _∙_, subst}
-use mathlib.Core.Logic.{_⊎_, inl, inr, ⊎-elim, _≢_}
-use mathlib.Core.Bool.{Bool, true, false, not, _||_, _&&_, cond}
+use mathlib.Core.Path.{_≡_, refl, sym, ap, _∙_}
+use mathlib.Core.Logic.{⊎-elim}
+use mathlib.Core.Bool.{Bool, true, false, _&&_, cond}
 use mathlib.Core.List.{List, [], _∷_, _++_, append-assoc, append-nil}
-use Prim.Native.Nat.{ℕ, zero, suc, _+_, _*_, _-_, _≤_, _<_, min}
+use Prim.Native.Nat.{ℕ, zero, suc, _+_, _-_, _≤_, _<_, min}
 use native.Mathlib.Omega.{arith}
 use native.Mathlib.Decide.{ℕ-discrete}
 use native.Mathlib.Numerals.{add-one}
-use lib.ListN.{length, getD, set, take, drop, replicate, length-append, length-drop, length-replicate, drop-of-length-le, List·getD-append}
+use lib.ListN.{length, getD, set, take, drop, replicate, length-append, length-replicate, drop-of-length-le, List·getD-append}
 use lib.Seq.{getD-at, set-at, take-append-le, take-all, take-suc, drop-cons}
-use lib.Dec.{eqb}
-use Rattle.foundations.specs.Tests.{and-split, and-false}
+use Rattle.foundations.specs.Tests.{and-split, and-false, same?}
 use Rattle.foundations.specs.Counting.{cnt}
 
 -- ---- every number below k passes the test
@@ -90,6 +89,14 @@ pub tab-ext : {A : Type 0} (f g : ℕ → A) (k : ℕ) → ((x : ℕ) → x < k 
 unfolding tab
 tab-ext f g zero h = refl
 tab-ext f g (suc k) h = rw (tab-ext f g k (λ x l. h x (omega arith)), h k (omega arith))
+
+pub take-tab : {A : Type 0} (g : ℕ → A) (k n : ℕ) → k ≤ n → take k (tab g n) ≡ tab g k
+unfolding tab
+take-tab g k zero h = let e : k ≡ 0 = omega arith in rw e
+take-tab g k (suc n) h = ⊎-elim
+    (λ e. rw e (take-all (suc n) (tab g n ++ (g n ∷ [])) (rw (length-append, length-tab) (omega arith))))
+    (λ e. let l : k ≤ n = omega arith in take-append-le k (tab g n) (g n ∷ []) (rw length-tab l) ∙ take-tab g k n l)
+    (same? k (suc n))
 
 -- ---- the numbers below k that pass a test, ascending
 

@@ -1,15 +1,14 @@
 -- What the machine's signed operations ask and tell, for numbers that fit. Assumes nothing.
-use mathlib.Core.Path.{_≡_, refl, sym, ap, _∙_, subst}
-use mathlib.Core.Bool.{Bool, true, false, not}
-use Prim.Native.Nat.{ℕ, zero, suc, _+_, _*_, _-_, _≤_, _<_, _^_, min, max}
+use mathlib.Core.Path.{_≡_}
+use Prim.Native.Nat.{ℕ, _+_, _<_, _^_}
 use native.Mathlib.Omega.{arith}
 use lib.Dec.{T}
-use lib.IntN.{ℤ, pos, negsuc, _+ℤ_, _-ℤ_, negℤ, natAbs}
-use lib.Signed.{mag, nonNeg, _≤ℤ_, _<ℤ_}
+use lib.IntN.{ℤ, pos, negsuc, _+ℤ_, _-ℤ_, natAbs}
+use lib.Signed.{mag, nonNeg}
 use mir.Syntax.{Width, w32, w64}
-use mir.Val.{Fits, SFits, toZ, ofZ, hbits, bits}
-use mir.Facts.{toZ-ofZ, sfits-widen, toZ-pos}
-use Rattle.foundations.specs.Int.{up, dn, neg, plus, minus, canon, int, ints}
+use mir.Val.{SFits, toZ, ofZ, hbits}
+use mir.Facts.{toZ-ofZ, sfits-widen}
+use Rattle.foundations.specs.Int.{up, dn, neg, int, ints}
 
 pub sfits-64 : {z : ℤ} → SFits w32 z → SFits w64 z
 sfits-64 f = sfits-widen tt f

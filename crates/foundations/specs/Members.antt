@@ -1,17 +1,19 @@
 -- Members of a list of numbers: membership, deletion, how often and where a number stands. Assumes nothing.
 use mathlib.Core.Path.{_≡_, refl, sym, ap, _∙_, subst}
 use mathlib.Core.Logic.{_⊎_, inl, inr, ⊎-elim, _≢_}
-use mathlib.Core.Bool.{Bool, true, false, not, _||_, _&&_, cond, true≢false}
-use mathlib.Core.List.{List, [], _∷_, _++_, append-assoc, append-nil}
-use Prim.Native.Nat.{ℕ, zero, suc, _+_, _*_, _-_, _≤_, _<_}
+use mathlib.Core.Bool.{Bool, true, false, _||_, _&&_, cond}
+use mathlib.Core.List.{List, [], _∷_, _++_, append-nil}
+use Prim.Native.Nat.{ℕ, zero, suc, _+_, _≤_, _<_}
 use native.Mathlib.Omega.{arith}
 use native.Mathlib.Decide.{ℕ-discrete, decLt}
 use native.Mathlib.Nat.{not-suc-le-zero}
 use lib.ListN.{length, getD, length-append}
 use lib.Dec.{T, eqb}
 use lib.IntN.{ℤ, pos, _+ℤ_, +ℤ-idl, +ℤ-idr}
-use borrow.Author.Tests.{eqb-true, eqb-false, eq-eqb, ne-eqb}
-use Rattle.foundations.specs.Tests.{same, eqb-same, true→T, T→true, not-T→false, or-assoc}
+use borrow.Author.Tests.{eq-eqb, ne-eqb}
+use Rattle.foundations.specs.Tests.{same, eqb-same, not-T→false, or-assoc}
+use lib.Signed.{_≤ℤ_, ≤ℤ-refl}
+use Rattle.foundations.specs.Int.{int, plus, +ℤ-mono}
 use Rattle.foundations.specs.Sums.{pick, sumℤ, sumℤ-ext, sumℤ-add, sumℤ-zero, sumℤ-one, lsum}
 use Rattle.foundations.specs.Counting.{cnt, pigeon, Twice}
 use Rattle.foundations.specs.Lists.{below, cat, cat-append}
@@ -176,6 +178,34 @@ lsum-sumℤ n (x ∷ l) f d b =
     ∙ ap (λ (z : ℤ). z +ℤ sumℤ n (λ c. pick (mem c l) (f c))) (sym (sumℤ-one n x f (b .0)))
     ∙ sym (sumℤ-add n (λ c. pick (eqb x c) (f c)) (λ c. pick (mem c l) (f c)))
     ∙ sumℤ-ext n _ _ (λ c h. sym (pick-mem x c l f (d .0)))
+
+-- ---- sums of terms that are not negative
+
+pub lsum-nonneg : (l : List ℕ) (b : ℕ → ℤ) → ((x : ℕ) → T (mem x l) → pos 0 ≤ℤ b x) → pos 0 ≤ℤ lsum l b
+unfolding lsum
+lsum-nonneg [] b h = ≤ℤ-refl _
+lsum-nonneg (x ∷ l) b h = let i = lsum-nonneg l b (λ y t. h y (mem-there y x l t)) in let k = h x (mem-here x l) in omega int
+
+lsum-del-le : (v : ℕ) (l : List ℕ) (b : ℕ → ℤ) → ((x : ℕ) → T (mem x l) → pos 0 ≤ℤ b x) → lsum (del v l) b ≤ℤ lsum l b
+unfolding lsum del
+lsum-del-le v [] b h = ≤ℤ-refl _
+lsum-del-le v (x ∷ l) b h =
+    let i = lsum-del-le v l b (λ y t. h y (mem-there y x l t)) in
+    let k = h x (mem-here x l) in
+    ⊎-elim (λ e. rw (e .1) (omega int)) (λ e. rw (e .1) (+ℤ-mono (≤ℤ-refl (b x)) i)) (same v x)
+
+-- what is taken out of the list
+pub lsum-del : (v : ℕ) (l : List ℕ) (b : ℕ → ℤ) → ((x : ℕ) → T (mem x l) → pos 0 ≤ℤ b x) → T (mem v l) → (b v +ℤ lsum (del v l) b) ≤ℤ lsum l b
+unfolding lsum del
+lsum-del v [] b h t = absurd (mem-nil v t)
+lsum-del v (x ∷ l) b h t =
+    ⊎-elim
+    (λ e. rw (e .1, e .0) (+ℤ-mono (≤ℤ-refl (b x)) (lsum-del-le x l b (λ y t. h y (mem-there y x l t)))))
+    (λ e. rw (e .1) (⊎-elim
+    (λ q. absurd (e .0 q))
+    (λ m. let i = lsum-del v l b (λ y t. h y (mem-there y x l t)) m in omega (int, plus (b x) (lsum (del v l) b)))
+    (mem-cases v x l t)))
+    (same v x)
 
 -- ---- how often
 

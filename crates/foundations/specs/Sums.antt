@@ -1,17 +1,18 @@
 -- Finite sums f 0 + .. + f (n - 1), of natural numbers (`sum`) and of integers (`sumℤ`), and an integer sum over a list (`lsum`). Assumes nothing.
 use mathlib.Core.Path.{_≡_, refl, sym, ap, _∙_, subst}
 use mathlib.Core.Logic.{_⊎_, inl, inr, ⊎-elim, _≢_}
-use mathlib.Core.Bool.{Bool, true, false, not, _||_, _&&_, cond}
+use mathlib.Core.Bool.{Bool, true, false, _&&_}
 use mathlib.Core.List.{List, [], _∷_, _++_}
-use Prim.Native.Nat.{ℕ, zero, suc, _+_, _*_, _-_, _≤_, _<_, zero-le}
+use Prim.Native.Nat.{ℕ, zero, suc, _+_, _*_, _≤_, _<_, zero-le}
 use native.Mathlib.Omega.{arith}
 use native.Mathlib.Numerals.{add-one}
 use native.Mathlib.Nat.{not-suc-le-zero, add-zero, add-suc}
-use lib.IntN.{ℤ, pos, negsuc, _+ℤ_, +ℤ-idl, +ℤ-idr, +ℤ-assoc}
+use lib.IntN.{ℤ, pos, _+ℤ_, +ℤ-idl, +ℤ-idr, +ℤ-assoc}
 use lib.Dec.{T, eqb}
+use borrow.Author.Tests.{eq-eqb}
 use lib.Signed.{_≤ℤ_, ≤ℤ-refl}
-use Rattle.foundations.specs.Tests.{same?, same}
-use Rattle.foundations.specs.Int.{int, sums, plus, +ℤ-mono}
+use Rattle.foundations.specs.Tests.{same?, same, true→T, T→true, not-T→false, somewhere}
+use Rattle.foundations.specs.Int.{up, dn, canon, int, sums, plus, +ℤ-mono}
 
 -- ---- natural numbers
 
@@ -166,6 +167,69 @@ sumℤ-point (suc n) f g c l e =
     let s : f n ≡ g n = e n (omega arith) (λ p. q (sym p)) in
     omega (int, plus (sumℤ n f) (f n), plus (sumℤ n g) (g n), s))
     (same? c n)
+
+pub pick-zero : (b : Bool) → pick b (pos 0) ≡ pos 0
+pick-zero true = refl
+pick-zero false = refl
+
+pub pick-same : (a b : Bool) (x y : ℤ) → a ≡ b → (T b → x ≡ y) → pick a x ≡ pick b y
+pick-same a true x y e h = rw e (h tt)
+pick-same a false x y e h = rw e
+
+-- a test that holds at one place at most picks one term, or none
+pub sumℤ-unique : (n : ℕ) (p : ℕ → Bool) (X : ℕ → ℤ) → ((i j : ℕ) → i < n → j < n → T (p i) → T (p j) → i ≡ j) → (((i : ℕ) → i < n → p i ≡ false) × (sumℤ n (λ i. pick (p i) (X i)) ≡ pos 0)) ⊎ ((t : ℕ) × (t < n) × T (p t) × (sumℤ n (λ i. pick (p i) (X i)) ≡ X t))
+sumℤ-unique n p X h = ⊎-elim
+    (λ q. inr (q .0, q .1, q .2, sumℤ-ext n _ _ (λ i k. ap (λ (b : Bool). pick b (X i)) (is (q .0) (q .1) (q .2) i k)) ∙ sumℤ-one n (q .0) X (q .1)))
+    (λ f. inl (f, sumℤ-ext n _ (λ i. pos 0) (λ i k. rw (f i k)) ∙ sumℤ-zero n))
+    (somewhere n p)
+  where
+    is : (t : ℕ) → t < n → T (p t) → (i : ℕ) → i < n → p i ≡ eqb t i
+    is t l s i k = ⊎-elim (λ e. rw (← e .0) (T→true _ s) ∙ sym (e .1)) (λ e. not-T→false _ (λ r. e .0 (h t i l k s r)) ∙ sym (e .1)) (same t i)
+
+-- k takes the numbers below e to those below n but 0, each once: a sum over the first is one over the second
+pub sumℤ-reindex : (n e : ℕ) (k : ℕ → ℕ) (C : ℕ → ℤ) → C 0 ≡ pos 0 → ((j : ℕ) → j < e → k j < n) → ((i j : ℕ) → i < e → j < e → k i ≡ k j → i ≡ j) → ((c : ℕ) → c < n → c ≢ 0 → (j : ℕ) × (j < e) × (k j ≡ c)) → sumℤ e (λ j. C (k j)) ≡ sumℤ n C
+sumℤ-reindex n e k C zero-C low once all =
+    sumℤ-ext e (λ j. C (k j)) (λ j. sumℤ n (λ c. pick (eqb (k j) c) (C c))) (λ j l. sym (sumℤ-one n (k j) C (low j l)))
+    ∙ sumℤ-swap e n (λ j c. pick (eqb (k j) c) (C c))
+    ∙ sumℤ-ext n (λ c. sumℤ e (λ j. pick (eqb (k j) c) (C c))) C column
+  where
+    says : (j c : ℕ) → T (eqb (k j) c) → k j ≡ c
+    says j c t = ⊎-elim (λ q. q .0) (λ q. absurd (subst T (q .1) t)) (same (k j) c)
+
+    column : (c : ℕ) → c < n → sumℤ e (λ j. pick (eqb (k j) c) (C c)) ≡ C c
+    column c l = ⊎-elim
+        (λ q. let z : C c ≡ pos 0 = ap C (q .0) ∙ zero-C in
+        sumℤ-ext e (λ j. pick (eqb (k j) c) (C c)) (λ j. pos 0) (λ j m. ap (pick (eqb (k j) c)) z ∙ pick-zero (eqb (k j) c)) ∙ sumℤ-zero e ∙ sym z)
+        (λ q. let a = all c l (q .0) in
+        ⊎-elim
+        (λ r. absurd (subst T (r .0 (a .0) (a .1)) (true→T (eq-eqb (k (a .0)) c (a .2)))))
+        (λ r. r .3)
+        (sumℤ-unique e (λ j. eqb (k j) c) (λ j. C c) (λ i j li lj s t. once i j li lj (says i c s ∙ sym (says j c t)))))
+        (same c 0)
+
+-- ---- the size of an integer, and of a sum
+
+abbrev pub size : ℤ → ℕ
+size z = up z + dn z
+
+pub size-plus : (a b : ℤ) → size (a +ℤ b) ≤ size a + size b
+size-plus a b = omega (arith, plus a b, canon (a +ℤ b))
+
+pub size-pick : (b : Bool) (z : ℤ) (k : ℕ) → (T b → size z ≤ k) → size (pick b z) ≤ k
+size-pick true z k h = h tt
+size-pick false z k h = omega arith
+
+-- n terms of size k at most
+pub sumℤ-size : (n k : ℕ) (f : ℕ → ℤ) → ((i : ℕ) → i < n → size (f i) ≤ k) → size (sumℤ n f) ≤ n * k
+unfolding sumℤ
+sumℤ-size zero k f h = omega arith
+sumℤ-size (suc n) k f h = omega (arith, size-plus (sumℤ n f) (f n), sumℤ-size n k f (λ i l. h i (omega arith)), h n (omega arith))
+
+-- and with nothing at 0
+pub sumℤ-size-0 : (n k : ℕ) (f : ℕ → ℤ) → f 0 ≡ pos 0 → ((i : ℕ) → i < suc n → size (f i) ≤ k) → size (sumℤ (suc n) f) ≤ n * k
+unfolding sumℤ
+sumℤ-size-0 zero k f z h = rw z (omega arith)
+sumℤ-size-0 (suc n) k f z h = omega (arith, size-plus (sumℤ n f +ℤ f n) (f (suc n)), sumℤ-size-0 n k f z (λ i l. h i (omega arith)), h (suc n) (omega arith))
 
 -- ---- over a list
 

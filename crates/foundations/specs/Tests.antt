@@ -2,11 +2,12 @@
 use mathlib.Core.Path.{_≡_, refl, sym, ap, _∙_, subst}
 use mathlib.Core.Logic.{_⊎_, inl, inr, ⊎-elim, _≢_}
 use mathlib.Core.Bool.{Bool, true, false, not, _||_, _&&_, cond, true≢false}
-use Prim.Native.Nat.{ℕ, zero, suc, _+_, _-_, _≤_, _<_}
+use Prim.Native.Nat.{ℕ, zero, suc, _≤_, _<_}
 use native.Mathlib.Omega.{arith}
+use native.Mathlib.Nat.{not-suc-le-zero}
 use native.Mathlib.Decide.{ℕ-discrete, decLt}
-use lib.Dec.{T, eqb, ltb, leb, eqb→eq, eqb-refl}
-use borrow.Author.Tests.{eqb-true, eqb-false, eq-eqb, ne-eqb}
+use lib.Dec.{T, eqb}
+use borrow.Author.Tests.{eq-eqb, ne-eqb}
 
 -- ---- splits
 
@@ -81,6 +82,41 @@ or-true false = refl
 pub or-false : (a : Bool) → (a || false) ≡ a
 or-false true = refl
 or-false false = refl
+
+-- "not a, or b" says that b follows from a
+pub implies : (a b : Bool) → (not a || b) ≡ true → T a → b ≡ true
+implies true b h t = h
+implies false b h t = absurd t
+
+pub implied : (a b : Bool) → (T a → b ≡ true) → (not a || b) ≡ true
+implied true b h = h tt
+implied false b h = refl
+
+pub and-comm : (a b : Bool) → (a && b) ≡ (b && a)
+and-comm true true = refl
+and-comm true false = refl
+and-comm false true = refl
+and-comm false false = refl
+
+pub or-comm : (a b : Bool) → (a || b) ≡ (b || a)
+or-comm true true = refl
+or-comm true false = refl
+or-comm false true = refl
+or-comm false false = refl
+
+-- ---- a range
+
+-- a test holds somewhere below n, or nowhere
+pub somewhere : (n : ℕ) (p : ℕ → Bool) → ((t : ℕ) × (t < n) × T (p t)) ⊎ ((i : ℕ) → i < n → p i ≡ false)
+somewhere zero p = inr (λ i h. absurd (not-suc-le-zero h))
+somewhere (suc n) p = ⊎-elim (λ q. inl (q .0, omega (arith, q .1), q .2)) (λ f. go f (p n) refl) (somewhere n p)
+  where
+    go : ((i : ℕ) → i < n → p i ≡ false) → (b : Bool) → p n ≡ b → ((t : ℕ) × (t < suc n) × T (p t)) ⊎ ((i : ℕ) → i < suc n → p i ≡ false)
+    go f true e = inl (n, omega arith, true→T e)
+    go f false e = inr (λ i h. ⊎-elim (λ q. ap p (q .0) ∙ e) (λ q. f i (lower i h (q .0))) (same i n))
+      where
+        lower : (i : ℕ) → i < suc n → i ≢ n → i < n
+        lower i h q = omega arith
 
 -- ---- a chain of refusals: a test whose failure gives k
 
