@@ -11,3 +11,7 @@ pub mod Order
 pub mod Pairs
 pub mod Calls
 pub mod Input
+pub mod Mapping
+pub mod Values
+pub mod Readout
+pub mod Duals

@@ -1,0 +1,25 @@
+-- Mappings, values, and the theorem that nothing weighs more: over any weights, then over the bytes of paper 01.
+pub mod WeightLaws
+pub mod Matching
+pub mod Rooted
+pub mod Connected
+pub mod Onward
+pub mod Problem
+pub mod Bound
+pub mod Quick
+pub mod Readout
+pub mod HandDown
+pub mod Largest
+pub mod Duals
+pub mod Range
+pub mod Recursion
+pub mod Trees
+pub mod Mappings
+pub mod QuickTest
+pub mod Optimal
+pub mod Accepted
+pub mod ValueRange
+pub mod Filling
+pub mod ReadPair
+pub mod Theorems
+pub mod Cases

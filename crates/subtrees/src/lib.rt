@@ -1,0 +1,1 @@
+//! Proofs only: mappings, values, and the theorem that nothing weighs more. No code.
