@@ -6,3 +6,4 @@ pub mod Sums
 pub mod Counting
 pub mod Lists
 pub mod Members
+pub mod Changed

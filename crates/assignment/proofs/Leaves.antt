@@ -1,0 +1,128 @@
+-- What one turn of each small loop keeps. Assumes nothing.
+use mathlib.Core.Path.{_≡_, refl, sym, ap, subst, _∙_}
+use mathlib.Core.Logic.{_⊎_, ⊎-elim, _≢_}
+use mathlib.Core.List.{List}
+use Prim.Native.Nat.{ℕ, _+_, _-_, _≤_, _<_}
+use native.Mathlib.Omega.{arith}
+use native.Mathlib.Nat.{not-suc-le-zero}
+use lib.ListN.{length, set, length-set, replicate, getD-replicate}
+use lib.Seq.{getD-set-same, getD-set-other}
+use borrow.Author.Count.{below-more}
+use borrow.Author.Tests.{eq-eqb, ne-eqb, lt-ltb, le-ltb}
+use Rattle.foundations.specs.Tests.{same?, less?}
+use Rattle.foundations.specs.Sums.{sum, sum-more}
+use Rattle.foundations.specs.Changed.{changed-none, changed-more}
+use Rattle.assignment.specs.Matching.{at}
+use Rattle.assignment.specs.Loops.{far, lessOf, whoOf, openOf, OwnersOf, Nearest, Looked, First}
+
+-- ---- the nearest column
+
+pub nearest-none : (C f : ℕ → ℕ) (b : ℕ) → Nearest 0 C f b far
+nearest-none C f b = record { low = λ x h. absurd (not-suc-le-zero h); small = omega arith; found = λ h. absurd (omega arith) }
+
+pub nearest-more : (s : List ℕ) (v o : ℕ) {j b d b′ d′ : ℕ} {C : ℕ → ℕ} → Nearest j C (at s) b d → j < length s → o ≡ openOf (C j) v → b′ ≡ whoOf o d j b → d′ ≡ lessOf o d → Nearest (j + 1) C (at (set s j v)) b′ d′
+nearest-more s v o {j} {b} {d} {b′} {d′} {C} N h eo eb ed = ⊎-elim less more (less? o d)
+  where
+    here : at (set s j v) j ≡ v
+    here = getD-set-same s j v 0 h
+
+    old : (x : ℕ) → x < j → at (set s j v) x ≡ at s x
+    old x lt = getD-set-other s j x v 0 (λ q. omega (arith, q))
+
+    open-yes : C j ≢ 1 → o ≡ v
+    open-yes n = eo ∙ rw (ne-eqb (C j) 1 n)
+
+    open-no : C j ≡ 1 → o ≡ far
+    open-no e = eo ∙ rw (eq-eqb (C j) 1 e)
+
+    less : o < d → Nearest (j + 1) C (at (set s j v)) b′ d′
+    less lt =
+        let q : d′ ≡ o = ed ∙ rw (lt-ltb o d lt) in
+        let p : b′ ≡ j = eb ∙ rw (lt-ltb o d lt) in
+        let n : C j ≢ 1 = λ e. omega (arith, open-no e, N .small) in
+        record {
+          low = below-more (λ (x : ℕ). C x ≢ 1 → d′ ≤ at (set s j v) x) j (λ x hx c. omega (arith, old x hx, N .low x hx c)) (λ c. omega (arith, open-yes c, here));
+          small = omega (arith, N .small);
+          found = λ _. subst (λ (x : ℕ). (x < j + 1) × (C x ≢ 1) × (at (set s j v) x ≡ d′)) (sym p) (omega arith, n, omega (arith, open-yes n, here));
+        }
+
+    more : d ≤ o → Nearest (j + 1) C (at (set s j v)) b′ d′
+    more le =
+        let q : d′ ≡ d = ed ∙ rw (le-ltb o d le) in
+        let p : b′ ≡ b = eb ∙ rw (le-ltb o d le) in
+        record {
+          low = below-more (λ (x : ℕ). C x ≢ 1 → d′ ≤ at (set s j v) x) j (λ x hx c. omega (arith, old x hx, N .low x hx c)) (λ c. omega (arith, open-yes c, here));
+          small = omega (arith, N .small);
+          found = λ u. let f = N .found (omega arith) in subst (λ (x : ℕ). (x < j + 1) × (C x ≢ 1) × (at (set s j v) x ≡ d′)) (sym p) (omega (arith, f .0), f .1, omega (arith, old b (f .0), f .2));
+        }
+
+-- ---- distances
+
+pub first-none : (F : ℕ → ℕ) (s : List ℕ) → First 0 F s s 8 far
+first-none F s = record { distances = changed-none _ s; nearest = nearest-none _ _ 8 }
+
+pub first-more : {F : ℕ → ℕ} {s₀ s : List ℕ} (v : ℕ) {j b d b′ d′ : ℕ} → First j F s₀ s b d → j < length s₀ → v ≡ F j → b′ ≡ whoOf v d j b → d′ ≡ lessOf v d → First (j + 1) F s₀ (set s j v) b′ d′
+first-more {F} {s₀} {s} v {j} P h ev eb ed = record {
+  distances = changed-more (P .distances) h ev;
+  nearest = nearest-more s v v (P .nearest) (omega (arith, P .distances .size)) refl eb ed;
+}
+
+pub first-end : {F : ℕ → ℕ} {s₀ s : List ℕ} {j l b d : ℕ} → First j F s₀ s b d → l ≤ j → j ≤ l → First l F s₀ s b d
+first-end {F} {s₀} {s} {j} {l} {b} {d} P p q = subst (λ (x : ℕ). First x F s₀ s b d) (let e : j ≡ l = omega arith in e) P
+
+pub looked-none : (t : ℕ) (F C : ℕ → ℕ) (s f : List ℕ) → Looked 0 t F C s f s f 8 far
+looked-none t F C s f = record { distances = changed-none _ s; sources = changed-none _ f; nearest = nearest-none _ _ 8 }
+
+pub looked-more : {t : ℕ} {F C : ℕ → ℕ} {s₀ f₀ s f : List ℕ} (v u o : ℕ) {j b d b′ d′ : ℕ} → Looked j t F C s₀ f₀ s f b d → j < length s₀ → j < length f₀ → v ≡ lessOf (F j) (at s j) → u ≡ whoOf (F j) (at s j) t (at f j) → o ≡ openOf (C j) v → b′ ≡ whoOf o d j b → d′ ≡ lessOf o d → Looked (j + 1) t F C s₀ f₀ (set s j v) (set f j u) b′ d′
+looked-more {t} {F} {C} {s₀} {f₀} {s} {f} v u o {j} P h h′ ev eu eo eb ed = record {
+  distances = changed-more (P .distances) h ev;
+  sources = changed-more (P .sources) h′ (eu ∙ ap (λ (x : ℕ). whoOf (F j) x t (at f j)) (P .distances .rest j (omega arith)));
+  nearest = nearest-more s v o (P .nearest) (omega (arith, P .distances .size)) eo eb ed;
+}
+
+pub looked-end : {t : ℕ} {F C : ℕ → ℕ} {s₀ f₀ s f : List ℕ} {j l b d : ℕ} → Looked j t F C s₀ f₀ s f b d → l ≤ j → j ≤ l → Looked l t F C s₀ f₀ s f b d
+looked-end {t} {F} {C} {s₀} {f₀} {s} {f} {j} {l} {b} {d} P p q = subst (λ (x : ℕ). Looked x t F C s₀ f₀ s f b d) (let e : j ≡ l = omega arith in e) P
+
+-- ---- owners
+
+pub owners-none : (m : List ℕ) → OwnersOf 0 m (replicate 8 8)
+owners-none m = record { has = λ c h lt. absurd (omega (arith, getD-replicate {A = ℕ} 8 c 8 0 h)); none = λ c h le x lt. absurd (not-suc-le-zero lt); size = refl }
+
+-- row i has column c
+pub owners-yes : {i c v : ℕ} {m own : List ℕ} → OwnersOf i m own → i < 8 → c < 8 → at m i ≡ c → v ≡ i → OwnersOf (i + 1) m (set own c v)
+owners-yes {i} {c} {v} {m} {own} P hi hc e ev = record {
+  has = λ x hx lt. ⊎-elim
+      (λ q. let w : at (set own c v) x ≡ i = ap (at (set own c v)) q ∙ here ∙ ev in subst (λ (o : ℕ). (o < i + 1) × (at m o ≡ x)) (sym w) (omega arith, e ∙ sym q))
+      (λ n. let w : at (set own c v) x ≡ at own x = getD-set-other own c x v 0 n in let o = P .has x hx (omega arith) in subst (λ (o : ℕ). (o < i + 1) × (at m o ≡ x)) (sym w) (omega (arith, o .0), o .1))
+      (same? x c);
+  none = λ x hx le y lt. ⊎-elim
+      (λ q. absurd (omega (arith, ap (at (set own c v)) q, here)))
+      (λ n. let w : at (set own c v) x ≡ at own x = getD-set-other own c x v 0 n in
+      below-more (λ (y : ℕ). at m y ≢ x) i (P .none x hx (omega arith)) (λ q. n (sym q ∙ e)) y lt)
+      (same? x c);
+  size = simp length-set (P .size);
+}
+  where
+    here : at (set own c v) c ≡ v
+    here = getD-set-same own c v 0 (omega (arith, P .size))
+
+-- row i has no column
+pub owners-no : {i : ℕ} {m own : List ℕ} → OwnersOf i m own → 8 ≤ at m i → OwnersOf (i + 1) m own
+owners-no {i} {m} {own} P le = record {
+  has = λ x hx lt. let o = P .has x hx lt in (omega (arith, o .0), o .1);
+  none = λ x hx h. below-more (λ (y : ℕ). at m y ≢ x) i (P .none x hx h) (λ q. omega arith);
+  size = P .size;
+}
+
+pub owners-end : {i k : ℕ} {m own : List ℕ} → OwnersOf i m own → k ≤ i → i ≤ k → OwnersOf k m own
+owners-end {i} {k} {m} {own} P p q = subst (λ (x : ℕ). OwnersOf x m own) (let e : i ≡ k = omega arith in e) P
+
+-- ---- a sum that counts down
+
+-- the first i are left to add
+pub left-more : (i n s : ℕ) (f : ℕ → ℕ) → 0 < i → s + sum i f ≡ sum n f → s + f (i - 1) + sum (i - 1) f ≡ sum n f
+left-more i n s f h e = let d : i ≡ i - 1 + 1 = omega arith in omega (arith, ap (λ (x : ℕ). sum x f) d, sum-more (i - 1) f)
+
+pub left-none : (i n s : ℕ) (f : ℕ → ℕ) → i ≤ 0 → s + sum i f ≡ sum n f → s ≡ sum n f
+unfolding sum
+left-none i n s f h e = let d : i ≡ 0 = omega arith in omega (arith, ap (λ (x : ℕ). sum x f) d)

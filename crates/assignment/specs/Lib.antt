@@ -1,0 +1,5 @@
+-- What the assignment's contracts say: matchings and their greatest weight, the state of a solution, the tree of a search, the small loops.
+pub mod Matching
+pub mod State
+pub mod Loops
+pub mod Tree

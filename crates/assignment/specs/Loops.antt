@@ -1,0 +1,74 @@
+-- What the small loops leave. Assumes nothing.
+use mathlib.Core.Path.{_≡_}
+use mathlib.Core.Logic.{_≢_}
+use mathlib.Core.Bool.{cond}
+use mathlib.Core.List.{List}
+use Prim.Native.Nat.{ℕ, _+_, _*_, _-_, _≤_, _<_}
+use lib.Dec.{eqb, ltb}
+use lib.ListN.{length}
+use Rattle.foundations.specs.Changed.{Changed}
+use Rattle.assignment.specs.Matching.{at, gainLimit}
+
+-- greater than every distance
+abbrev pub far : ℕ
+far = 18446744073709551615
+
+-- the lesser of two distances, and the row or column that has it
+abbrev pub lessOf : ℕ → ℕ → ℕ
+lessOf new old = cond (ltb new old) new old
+
+abbrev pub whoOf : ℕ → ℕ → ℕ → ℕ → ℕ
+whoOf new old t f = cond (ltb new old) t f
+
+-- a column of the tree is not chosen
+abbrev pub openOf : ℕ → ℕ → ℕ
+openOf c x = cond (eqb c 1) far x
+
+-- the duals at the end of a search at distance e, of a row that joined at j and a column that joined at w
+abbrev pub rowEnd : ℕ → ℕ → ℕ → ℕ → ℕ
+rowEnd e t j x = cond (eqb t 1) (x + j - e) x
+
+abbrev pub columnEnd : ℕ → ℕ → ℕ → ℕ → ℕ
+columnEnd e c w x = cond (eqb c 1) (x + e - w) x
+
+-- own has the row of each column, or 8, where the first i rows are looked at
+pub record OwnersOf (i : ℕ) (m own : List ℕ) : Type 0 where
+  pub has : (c : ℕ) → c < 8 → at own c < 8 → (at own c < i) × (at m (at own c) ≡ c)
+  pub none : (c : ℕ) → c < 8 → 8 ≤ at own c → (x : ℕ) → x < i → at m x ≢ c
+  pub size : length own ≡ 8
+
+-- r is the row of column j, or k or more
+pub record Owner (k : ℕ) (m : ℕ → ℕ) (j r : ℕ) : Type 0 where
+  pub has : r < k → m r ≡ j
+  pub none : k ≤ r → (i : ℕ) → i < k → m i ≢ j
+
+-- b is a column below j outside C with the least f, which is d; where there is none b is 8 and d is `far`
+pub record Nearest (j : ℕ) (C f : ℕ → ℕ) (b d : ℕ) : Type 0 where
+  pub low : (x : ℕ) → x < j → C x ≢ 1 → d ≤ f x
+  pub small : d ≤ far
+  pub found : d < far → (b < j) × (C b ≢ 1) × (f b ≡ d)
+
+-- the first j columns are looked at from row t: distances, the rows that have them, and the nearest column outside
+pub record Looked (j t : ℕ) (F C : ℕ → ℕ) (dist from dist′ from′ : List ℕ) (b d : ℕ) : Type 0 where
+  pub distances : Changed j (λ x v. lessOf (F x) v) dist dist′
+  pub sources : Changed j (λ x v. whoOf (F x) (at dist x) t v) from from′
+  pub nearest : Nearest j C (at dist′) b d
+
+-- the first j columns have their distance from the root, and the nearest
+pub record First (j : ℕ) (F : ℕ → ℕ) (dist dist′ : List ℕ) (b d : ℕ) : Type 0 where
+  pub distances : Changed j (λ x v. F x) dist dist′
+  pub nearest : Nearest j (λ x. 0) (at dist′) b d
+
+-- no dual falls below 0 or passes its range where a search ends at distance e
+pub record Room (k l e : ℕ) (row col dist join y z : List ℕ) : Type 0 where
+  pub few-rows : k ≤ 8
+  pub few-columns : l ≤ 8
+  pub y-long : length y ≡ 8
+  pub z-long : length z ≡ 8
+  pub rows : (x : ℕ) → x < k → at row x ≡ 1 → (e ≤ at y x + at join x) × (at y x + at join x ≤ 2 * gainLimit)
+  pub columns : (x : ℕ) → x < l → at col x ≡ 1 → (at dist x ≤ at z x + e) × (at z x + e ≤ 2 * gainLimit)
+
+-- the duals after a search that ended at distance e
+pub record Settled (k l e : ℕ) (row col dist join y z y′ z′ : List ℕ) : Type 0 where
+  pub rows : Changed k (λ x v. rowEnd e (at row x) (at join x) v) y y′
+  pub columns : Changed l (λ x v. columnEnd e (at col x) (at dist x) v) z z′

@@ -1,0 +1,92 @@
+-- The state between searches, for any set of finished rows, and the solution, in which every row is finished. Assumes nothing.
+use mathlib.Core.Path.{_≡_}
+use mathlib.Core.Logic.{_⊎_, _≢_}
+use mathlib.Core.Bool.{Bool, true, false, _||_}
+use mathlib.Core.List.{List}
+use Prim.Native.Nat.{ℕ, _+_, _≤_, _<_}
+use lib.Dec.{eqb}
+use lib.ListN.{length}
+use Rattle.foundations.specs.Sums.{sum}
+use Rattle.assignment.specs.Matching.{at, cell, gainLimit, weight, Injective, Has, best, all, minus, gained}
+
+-- the sizes, and the gains' limit
+pub record Sized (k l : ℕ) (g : ℕ → ℕ → ℕ) : Type 0 where
+  pub rows : k ≤ 8
+  pub columns : l ≤ 8
+  pub gains : (i j : ℕ) → i < k → j < l → g i j ≤ gainLimit
+
+-- the arrays that a caller lends
+pub record Lengths (y z m : List ℕ) : Type 0 where
+  pub rows : length y ≡ 8
+  pub columns : length z ≡ 8
+  pub matching : length m ≡ 8
+
+-- each row has a column, or 8
+pub record Bytes (l : ℕ) (m : List ℕ) : Type 0 where
+  pub range : (x : ℕ) → x < 8 → (at m x < l) ⊎ (at m x ≡ 8)
+
+-- Row duals y, column duals z and the column m of each row, where `finished` says which rows are finished. Other rows are pending: they have no column, and their duals mean nothing.
+pub record State (k l : ℕ) (g : ℕ → ℕ → ℕ) (finished : ℕ → Bool) (y z m : ℕ → ℕ) : Type 0 where
+  pub feasible : (i j : ℕ) → i < k → finished i ≡ true → j < l → g i j ≤ y i + z j
+  pub tight : (i : ℕ) → i < k → m i < l → g i (m i) ≡ y i + z (m i)
+  pub injective : Injective k l m
+  pub columns : (j : ℕ) → j < l → (z j ≡ 0) ⊎ Has k m j
+  pub rows : (i : ℕ) → i < k → finished i ≡ true → (y i ≡ 0) ⊎ (m i < l)
+  pub pending : (i : ℕ) → i < k → finished i ≡ false → l ≤ m i
+  pub limit : (i : ℕ) → i < k → finished i ≡ true → y i ≤ gainLimit
+
+-- the finished rows, and r
+unfoldable pub also : ℕ → (ℕ → Bool) → ℕ → Bool
+also r finished i = finished i || eqb i r
+
+-- row r is pending; which rows are finished is free
+pub record Pending (k l r : ℕ) (g : ℕ → ℕ → ℕ) (y z m : ℕ → ℕ) : Type 0 where
+  pub finished : ℕ → Bool
+  pub state : State k l g finished y z m
+  pub pending : finished r ≡ false
+
+-- whichever rows were finished, they and row r are finished
+pub record Joined (k l r : ℕ) (g : ℕ → ℕ → ℕ) (y z m y′ z′ m′ : ℕ → ℕ) : Type 0 where
+  pub state : (p : Pending k l r g y z m) → State k l g (also r (p .finished)) y′ z′ m′
+
+-- The answer: duals that cover every gain, tight at the matched pairs and 0 at rows and columns that are not matched, so that their sum is the matching's weight, and no matching weighs more.
+pub record Solved (k l : ℕ) (g : ℕ → ℕ → ℕ) (y z m : ℕ → ℕ) : Type 0 where
+  pub feasible : (i j : ℕ) → i < k → j < l → g i j ≤ y i + z j
+  pub tight : (i : ℕ) → i < k → m i < l → g i (m i) ≡ y i + z (m i)
+  pub injective : Injective k l m
+  pub columns : (j : ℕ) → j < l → (z j ≡ 0) ⊎ Has k m j
+  pub rows : (i : ℕ) → i < k → (y i ≡ 0) ⊎ (m i < l)
+  pub row-limit : (i : ℕ) → i < k → y i ≤ gainLimit
+  pub column-limit : (j : ℕ) → j < l → z j ≤ gainLimit
+  pub equal : weight k l g m ≡ sum k y + sum l z
+  pub greatest : weight k l g m ≡ best l g k all
+
+-- the answer in the caller's arrays
+pub record Answer (k l : ℕ) (g : ℕ → ℕ → ℕ) (y z m : List ℕ) : Type 0 where
+  pub sizes : Lengths y z m
+  pub bytes : Bytes l m
+  pub solved : Solved k l g (at y) (at z) (at m)
+
+-- h is g with column c's gains at 0
+pub record Cleared (k c : ℕ) (g h : ℕ → ℕ → ℕ) : Type 0 where
+  pub here : (i : ℕ) → i < k → h i c ≡ 0
+  pub other : (i j : ℕ) → j < 8 → j ≢ c → h i j ≡ g i j
+
+-- the answer of the rest: without column c, whose gains are now 0. The last part says it of the old gains: no matching of the other columns weighs more.
+pub record Rest (k l c : ℕ) (g h y z m : List ℕ) : Type 0 where
+  pub long : length h ≡ 64
+  pub cleared : Cleared k c (cell g) (cell h)
+  pub sized : Sized k l (cell h)
+  pub answer : Answer k l (cell h) y z m
+  pub greatest : weight k l (cell h) (at m) ≡ best l (cell g) k (minus all c)
+
+-- r is the sum of all duals, and so the greatest weight of whatever they are the answer of
+pub record Total (k l : ℕ) (y z : ℕ → ℕ) (r : ℕ) : Type 0 where
+  pub equal : r ≡ sum k y + sum l z
+  pub greatest : (g : ℕ → ℕ → ℕ) (m : ℕ → ℕ) → Solved k l g y z m → r ≡ best l g k all
+
+-- r is what row i has in the answer: its column if the gain is not 0, else none, which is 8
+pub record Partner (l : ℕ) (g : ℕ → ℕ → ℕ) (m : ℕ → ℕ) (i r : ℕ) : Type 0 where
+  pub range : r ≤ 8
+  pub pair : r < 8 → (r ≡ m i) × (r < l) × (0 < g i r)
+  pub none : 8 ≤ r → gained l g m i ≡ 0

@@ -1,0 +1,406 @@
+//! The heaviest matching of rows with columns, at most 8 each, by path searches: one search for each row, and in a search each
+//! pair of a row and a column is looked at once. Gains are at `row * 8 + column` of a table of 64, none above `GAIN_LIMIT`.
+//! The duals `y` of rows and `z` of columns show that no matching is heavier: their sums cover every gain, and the sum of all
+//! is the matching's weight. `m` has the column of each row, or 8. The definitions are in `specs/`.
+
+ghost use Prim.Native.Nat.{ℕ, _+_, _-_, _*_, _<_, _≤_};
+ghost use mathlib.Core.Path.{_≡_};
+ghost use lib.ListN.{length};
+ghost use Rattle.foundations.specs.Sums.{sum};
+ghost use Rattle.foundations.specs.Changed.{Changed};
+ghost use Rattle.assignment.specs.Matching.{at, cell, gainLimit};
+ghost use Rattle.assignment.specs.State.{Sized, Lengths, Bytes, Pending, Answer, Cleared, Rest, Partner, Total};
+ghost use Rattle.assignment.specs.Loops.{lessOf, whoOf, openOf, rowEnd, columnEnd, OwnersOf, Owner, Looked, First, Room, Settled};
+ghost use Rattle.assignment.specs.Tree.{Grown, Rooted, Ended};
+
+// No gain is greater: 2 ^ 48.
+pub const GAIN_LIMIT: u64 = 281474976710656;
+
+// Greater than every distance.
+const FAR: u64 = 18446744073709551615;
+
+// The nearest column outside a search's tree, or 8 and `FAR`.
+struct Near {
+    column: usize,
+    distance: u64,
+}
+
+fn place(x: u8) -> usize
+    ensures { λ r. ⌜ r ≡ x ⌝ }
+{
+    x as usize
+}
+
+fn byte(x: usize) -> u8
+    requires { ⌜ x < 8 ⌝ }
+    ensures { λ r. ⌜ r ≡ x ⌝ }
+{
+    x as u8
+}
+
+// The lesser of two distances, then the row and the column that have it.
+fn less_of(new: u64, old: u64) -> u64
+    ensures { λ r. ⌜ r ≡ lessOf new old ⌝ }
+{
+    if new < old { new } else { old }
+}
+
+fn who_of(new: u64, old: u64, t: u8, f: u8) -> u8
+    ensures { λ r. ⌜ r ≡ whoOf new old t f ⌝ }
+{
+    if new < old { t } else { f }
+}
+
+fn place_of(new: u64, old: u64, j: usize, b: usize) -> usize
+    ensures { λ r. ⌜ r ≡ whoOf new old j b ⌝ }
+{
+    if new < old { j } else { b }
+}
+
+// A column's distance for the choice of the nearest: those of the tree are out.
+fn open_of(c: u8, x: u64) -> u64
+    ensures { λ r. ⌜ r ≡ openOf c x ⌝ }
+{
+    if c == 1 { FAR } else { x }
+}
+
+// The row that has each column, or 8.
+fn owners(m: &[u8; 8], k: usize) -> [u8; 8]
+    requires { ⌜ k ≤ 8 ⌝ }
+    ensures { λ r. ⌜ OwnersOf k (now (m .entry)) r ⌝ }
+{
+    let mut own = [8u8; 8];
+    let mut i = 0;
+    while i < k {
+        let c = place(m[i]);
+        if c < 8 {
+            own[c] = byte(i);
+        }
+        i += 1;
+    }
+    own
+}
+
+// The distance of each column from row r at the greatest dual, and the nearest column.
+fn look_first(dist: &mut [u64; 8], g: &[u64; 64], z: &[u64; 8], l: usize, r: usize) -> Near
+    requires { ⌜ (length (now dist) ≡ 8) × (l ≤ 8) × (r < 8) × ((x : ℕ) → x < l → (at (now z) x ≤ gainLimit) × (cell (now g) r x ≤ gainLimit)) ⌝ }
+    ensures { λ n. ⌜ First l (λ x. gainLimit + at (now (z .entry)) x - cell (now (g .entry)) r x) (now (dist .entry)) (now (dist .exit)) (n .column) (n .distance) ⌝ }
+{
+    let mut b = 8;
+    let mut d = FAR;
+    let mut j = 0;
+    while j < l {
+        let s = GAIN_LIMIT + z[j] - g[r * 8 + j];
+        dist[j] = s;
+        b = place_of(s, d, j, b);
+        d = less_of(s, d);
+        j += 1;
+    }
+    Near {
+        column: b,
+        distance: d,
+    }
+}
+
+// The distances after row o joined the tree, and the nearest column outside.
+fn look(
+    dist: &mut [u64; 8],
+    from: &mut [u8; 8],
+    col: &[u8; 8],
+    g: &[u64; 64],
+    z: &[u64; 8],
+    l: usize,
+    t: u8,
+    base: u64,
+) -> Near
+    requires { ⌜ (length (now dist) ≡ 8) × (length (now from) ≡ 8) × (l ≤ 8) × (t < 8) × (base ≤ 2 * gainLimit) × ((x : ℕ) → x < l → (at (now z) x ≤ gainLimit) × (cell (now g) t x ≤ base + at (now z) x)) ⌝ }
+    ensures { λ n. ⌜ Looked l t (λ x. base + at (now (z .entry)) x - cell (now (g .entry)) t x) (at (now (col .entry))) (now (dist .entry)) (now (from .entry)) (now (dist .exit)) (now (from .exit)) (n .column) (n .distance) ⌝ }
+{
+    let o = place(t);
+    let mut b = 8;
+    let mut d = FAR;
+    let mut j = 0;
+    while j < l {
+        let s = base + z[j] - g[o * 8 + j];
+        let old = dist[j];
+        let new = less_of(s, old);
+        dist[j] = new;
+        from[j] = who_of(s, old, t, from[j]);
+        let open = open_of(col[j], new);
+        b = place_of(open, d, j, b);
+        d = less_of(open, d);
+        j += 1;
+    }
+    Near {
+        column: b,
+        distance: d,
+    }
+}
+
+// The dual x of a row that joined the tree at distance j, where the search ends at e.
+fn row_end(e: u64, t: u8, j: u64, x: u64) -> u64
+    requires { ⌜ (t ≡ 1 → (e ≤ x + j) × (x + j ≤ 2 * gainLimit)) ⌝ }
+    ensures { λ r. ⌜ r ≡ rowEnd e t j x ⌝ }
+{
+    if t == 1 { x + j - e } else { x }
+}
+
+// The dual x of a column that joined the tree at distance w, where the search ends at e.
+fn column_end(e: u64, c: u8, w: u64, x: u64) -> u64
+    requires { ⌜ (c ≡ 1 → (w ≤ x + e) × (x + e ≤ 2 * gainLimit)) ⌝ }
+    ensures { λ r. ⌜ r ≡ columnEnd e c w x ⌝ }
+{
+    if c == 1 { x + e - w } else { x }
+}
+
+// The duals of tree rows at the end of a search at distance e.
+fn settle_rows(y: &mut [u64; 8], row: &[u8; 8], join: &[u64; 8], k: usize, e: u64)
+    requires { ⌜ (length (now y) ≡ 8) × (k ≤ 8) × ((x : ℕ) → x < k → at (now row) x ≡ 1 → (e ≤ at (now y) x + at (now join) x) × (at (now y) x + at (now join) x ≤ 2 * gainLimit)) ⌝ }
+    ensures { λ _. ⌜ Changed k (λ x v. rowEnd e (at (now (row .entry)) x) (at (now (join .entry)) x) v) (now (y .entry)) (now (y .exit)) ⌝ }
+{
+    let mut i = 0;
+    while i < k {
+        y[i] = row_end(e, row[i], join[i], y[i]);
+        i += 1;
+    }
+}
+
+// The duals of tree columns at the end of a search at distance e.
+fn settle_columns(z: &mut [u64; 8], col: &[u8; 8], dist: &[u64; 8], l: usize, e: u64)
+    requires { ⌜ (length (now z) ≡ 8) × (l ≤ 8) × ((x : ℕ) → x < l → at (now col) x ≡ 1 → (at (now dist) x ≤ at (now z) x + e) × (at (now z) x + e ≤ 2 * gainLimit)) ⌝ }
+    ensures { λ _. ⌜ Changed l (λ x v. columnEnd e (at (now (col .entry)) x) (at (now (dist .entry)) x) v) (now (z .entry)) (now (z .exit)) ⌝ }
+{
+    let mut j = 0;
+    while j < l {
+        z[j] = column_end(e, col[j], dist[j], z[j]);
+        j += 1;
+    }
+}
+
+// The duals at the end of a search at distance e.
+fn settle(
+    y: &mut [u64; 8],
+    z: &mut [u64; 8],
+    row: &[u8; 8],
+    col: &[u8; 8],
+    dist: &[u64; 8],
+    join: &[u64; 8],
+    k: usize,
+    l: usize,
+    e: u64,
+)
+    requires { ⌜ Room k l e (now row) (now col) (now dist) (now join) (now y) (now z) ⌝ }
+    ensures { λ _. ⌜ Settled k l e (now (row .entry)) (now (col .entry)) (now (dist .entry)) (now (join .entry)) (now (y .entry)) (now (z .entry)) (now (y .exit)) (now (z .exit)) ⌝ }
+{
+    settle_rows(y, row, join, k, e);
+    settle_columns(z, col, dist, l, e);
+}
+
+// Row o and its column b join the tree at distance d, by way of row p: o's alternative is p's with b for p, and o made free.
+fn grow(
+    alt: &mut [[u8; 8]; 8],
+    row: &mut [u8; 8],
+    col: &mut [u8; 8],
+    join: &mut [u64; 8],
+    p: usize,
+    b: usize,
+    o: usize,
+    d: u64,
+)
+    requires { ⌜ (p < 8) × (b < 8) × (o < 8) ⌝ }
+    ensures { λ _. ⌜ Grown p b o d (now (alt .entry)) (now (row .entry)) (now (col .entry)) (now (join .entry)) (now (alt .exit)) (now (row .exit)) (now (col .exit)) (now (join .exit)) ⌝ }
+{
+    let mut n = alt[p];
+    n[p] = byte(b);
+    n[o] = 8;
+    alt[o] = n;
+    row[o] = 1;
+    col[b] = 1;
+    join[o] = d;
+}
+
+// The search from row r, whose dual is the limit and whose distances are known. A turn takes the nearest column into the tree,
+// with its row. The search ends at a column without a row, or where a tree row's dual is 0: that row is made free.
+fn explore(
+    g: &[u64; 64],
+    k: usize,
+    l: usize,
+    r: usize,
+    y: &mut [u64; 8],
+    z: &mut [u64; 8],
+    m: &mut [u8; 8],
+    own: &[u8; 8],
+    dist: &mut [u64; 8],
+    near: Near,
+)
+    requires { ⌜ Rooted k l r (cell (now g)) (now y) (now z) (now m) (now own) (now dist) (near .column) (near .distance) ⌝ }
+    ensures { λ _. ⌜ Ended k l r (cell (now (g .entry))) (now (y .entry)) (now (z .entry)) (now (m .entry)) (now (y .exit)) (now (z .exit)) (now (m .exit)) ⌝ }
+{
+    let mut row = [0u8; 8];
+    row[r] = 1;
+    let mut col = [0u8; 8];
+    let mut join = [0u64; 8];
+    let mut from = [byte(r); 8];
+    let mut alt = [[8u8; 8]; 8];
+    alt[r] = *m;
+    let mut a = r;
+    let mut low = GAIN_LIMIT;
+    let mut b = near.column;
+    let mut d = near.distance;
+    while d < low {
+        let p = place(from[b]);
+        let t = own[b];
+        let o = place(t);
+        if 8 <= o {
+            settle(y, z, &row, &col, dist, &join, k, l, d);
+            let mut n = alt[p];
+            n[p] = byte(b);
+            *m = n;
+            return;
+        }
+        grow(&mut alt, &mut row, &mut col, &mut join, p, b, o, d);
+        let base = y[o] + d;
+        a = place_of(base, low, o, a);
+        low = less_of(base, low);
+        let next = look(dist, &mut from, &col, g, z, l, t, base);
+        b = next.column;
+        d = next.distance;
+    }
+    settle(y, z, &row, &col, dist, &join, k, l, low);
+    *m = alt[a];
+}
+
+// Row r, which is pending, joins the finished rows, whichever they are. Its dual starts at the limit, which covers every gain, so
+// that its gains are looked at once. Nothing is left to do where the columns' duals cover r, or its nearest column is free.
+pub fn search(
+    g: &[u64; 64],
+    k: usize,
+    l: usize,
+    r: usize,
+    y: &mut [u64; 8],
+    z: &mut [u64; 8],
+    m: &mut [u8; 8],
+)
+    requires { ⌜ (Sized k l (cell (now g))) × (r < k) × (Lengths (now y) (now z) (now m)) × (Bytes l (now m)) × (Pending k l r (cell (now g)) (at (now y)) (at (now z)) (at (now m))) ⌝ }
+    ensures { λ _. ⌜ Ended k l r (cell (now (g .entry))) (now (y .entry)) (now (z .entry)) (now (m .entry)) (now (y .exit)) (now (z .exit)) (now (m .exit)) ⌝ }
+{
+    let own = owners(m, k);
+    let mut dist = [0u64; 8];
+    let near = look_first(&mut dist, g, z, l, r);
+    let d = near.distance;
+    if GAIN_LIMIT <= d {
+        y[r] = 0;
+        return;
+    }
+    let b = near.column;
+    if 8 <= own[b] {
+        y[r] = GAIN_LIMIT - d;
+        m[r] = byte(b);
+        return;
+    }
+    y[r] = GAIN_LIMIT;
+    explore(g, k, l, r, y, z, m, &own, &mut dist, near);
+}
+
+// The heaviest matching of k rows and l columns with its duals, one search for each row. What the arrays held does not matter.
+pub fn solve(g: &[u64; 64], k: usize, l: usize, y: &mut [u64; 8], z: &mut [u64; 8], m: &mut [u8; 8])
+    requires { ⌜ (Sized k l (cell (now g))) × (Lengths (now y) (now z) (now m)) ⌝ }
+    ensures { λ _. ⌜ Answer k l (cell (now (g .entry))) (now (y .exit)) (now (z .exit)) (now (m .exit)) ⌝ }
+{
+    *z = [0u64; 8];
+    *m = [8u8; 8];
+    let mut r = 0;
+    while r < k {
+        search(g, k, l, r, y, z, m);
+        r += 1;
+    }
+}
+
+// The row that has column c, or 8.
+fn owner(m: &[u8; 8], k: usize, c: usize) -> usize
+    requires { ⌜ k ≤ 8 ⌝ }
+    ensures { λ r. ⌜ Owner k (at (now (m .entry))) c r ⌝ }
+{
+    let mut i = 0;
+    while i < k {
+        if place(m[i]) == c {
+            return i;
+        }
+        i += 1;
+    }
+    8
+}
+
+// The gains of column c set to 0.
+fn clear(g: &mut [u64; 64], k: usize, c: usize)
+    requires { ⌜ (length (now g) ≡ 64) × (k ≤ 8) × (c < 8) ⌝ }
+    ensures { λ _. ⌜ (length (now (g .exit)) ≡ 64) × (Cleared k c (cell (now (g .entry))) (cell (now (g .exit)))) ⌝ }
+{
+    let mut i = 0;
+    while i < k {
+        g[i * 8 + c] = 0;
+        i += 1;
+    }
+}
+
+// From the answer of the whole to that without column c: its gains and its dual are set to 0, and its row, if it has one, is
+// made pending and joins again by one search.
+pub fn without(
+    g: &mut [u64; 64],
+    k: usize,
+    l: usize,
+    c: usize,
+    y: &mut [u64; 8],
+    z: &mut [u64; 8],
+    m: &mut [u8; 8],
+)
+    requires { ⌜ (length (now g) ≡ 64) × (c < l) × (Sized k l (cell (now g))) × (Answer k l (cell (now g)) (now y) (now z) (now m)) ⌝ }
+    ensures { λ _. ⌜ Rest k l c (now (g .entry)) (now (g .exit)) (now (y .exit)) (now (z .exit)) (now (m .exit)) ⌝ }
+{
+    clear(g, k, c);
+    z[c] = 0;
+    let r = owner(m, k, c);
+    if k <= r {
+        return;
+    }
+    m[r] = 8;
+    search(g, k, l, r, y, z, m);
+}
+
+// What row i has in the answer: its column, or 8. A matched pair whose gain is 0 is no pair of the answer.
+pub fn partner(g: &[u64; 64], l: usize, m: &[u8; 8], i: usize) -> u8
+    requires { ⌜ (l ≤ 8) × (i < 8) ⌝ }
+    ensures { λ r. ⌜ Partner l (cell (now (g .entry))) (at (now (m .entry))) i r ⌝ }
+{
+    let t = m[i];
+    let c = place(t);
+    if l <= c {
+        return 8;
+    }
+    if g[i * 8 + c] == 0 {
+        return 8;
+    }
+    t
+}
+
+// The sum of the first n.
+fn sum_of(a: &[u64; 8], n: usize) -> u64
+    requires { ⌜ (n ≤ 8) × ((x : ℕ) → x < n → at (now a) x ≤ gainLimit) ⌝ }
+    ensures { λ r. ⌜ (r ≡ sum n (at (now (a .entry)))) × (r ≤ n * gainLimit) ⌝ }
+{
+    let mut s = 0;
+    let mut i = n;
+    while 0 < i {
+        i -= 1;
+        s += a[i];
+    }
+    s
+}
+
+// The sum of all duals: the greatest weight, where they are those of an answer.
+pub fn total(k: usize, l: usize, y: &[u64; 8], z: &[u64; 8]) -> u64
+    requires { ⌜ (k ≤ 8) × (l ≤ 8) × ((x : ℕ) → x < k → at (now y) x ≤ gainLimit) × ((x : ℕ) → x < l → at (now z) x ≤ gainLimit) ⌝ }
+    ensures { λ r. ⌜ Total k l (at (now (y .entry))) (at (now (z .entry))) r ⌝ }
+{
+    sum_of(y, k) + sum_of(z, l)
+}

@@ -1,0 +1,2 @@
+-- What the comparing program's functions keep.
+pub mod Small
