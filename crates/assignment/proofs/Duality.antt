@@ -1,4 +1,4 @@
--- Weak duality: no matching weighs more than the sum of feasible duals; and equality where all row is finished. Assumes nothing.
+-- Weak duality: no matching weighs more than the sum of feasible duals; and equality where every row is finished. Assumes nothing.
 use mathlib.Core.Path.{_≡_, refl, sym, ap, subst, _∙_}
 use mathlib.Core.Logic.{_≢_, _⊎_, inl, inr, ⊎-elim}
 use mathlib.Core.Bool.{true≢false, Bool, true, false, cond, _&&_}
@@ -7,22 +7,18 @@ use native.Mathlib.Nat.{not-suc-le-zero}
 use native.Mathlib.Omega.{arith}
 use lib.Dec.{T, ltb, eqb}
 use borrow.Author.Tests.{lt-ltb, le-ltb, eq-eqb, ne-eqb}
-use Rattle.foundations.specs.Tests.{same?, less?}
+use Rattle.foundations.specs.Tests.{and-false, same?, less?}
 use Rattle.foundations.specs.Sums.{sum, sum-ext, sum-add, sum-zero, sum-point}
 use Rattle.assignment.specs.Matching.{gainLimit, gained, weight, Injective, minus, bestColumn, best, all, Has, Feasible}
 use Rattle.assignment.specs.State.{State, Solved, Partner, Cleared}
 
--- the bounds of the free columns
+-- the duals of the free columns
 abbrev open-z : (ℕ → Bool) → (ℕ → ℕ) → ℕ → ℕ
 open-z free z j = cond (free j) (z j) 0
 
 minus-same : (free : ℕ → Bool) (c : ℕ) → minus free c c ≡ false
 unfolding minus
-minus-same free c = rw (eq-eqb c c refl) (go (free c))
-  where
-    go : (b : Bool) → (b && false) ≡ false
-    go true = refl
-    go false = refl
+minus-same free c = rw (eq-eqb c c refl) (and-false (free c))
 
 minus-other : (free : ℕ → Bool) (c j : ℕ) → (j ≡ c → ⊥) → minus free c j ≡ free j
 unfolding minus

@@ -235,9 +235,6 @@ module _ {k l r : ℕ} {g : ℕ → ℕ → ℕ} {y₀ z₀ m₀ y z m own row c
         pub fewer : outside l (at col′) < outside l (at col)
         fewer = outside-less l b (at col) (at col′) (found .0) (found .1) put-col
 
-        pub source-long : length from ≡ 8
-        source-long = X .arrays .sources
-
         alts : alt′ ≡ set alt o (set (set (getD alt (at from b) []) (at from b) b) o 8)
         alts = subst (λ (x : ℕ). alt′ ≡ set alt o (set (set (getD alt x []) x b) o 8)) eq (J .alts)
 

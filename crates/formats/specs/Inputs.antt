@@ -9,7 +9,7 @@ use Rattle.model.specs.Refusals.{Item, firstOf}
 use Rattle.model.specs.Table.{vertexLabels, edgeLabels, tableItems, tableItem}
 use Rattle.model.specs.Tree.{treeItems, treeItem}
 use Rattle.model.specs.Calls.{inputItems, inputItem}
-use Rattle.trees.specs.Items.{Numbered, end, more, first-then, first-here}
+use Rattle.trees.specs.Items.{Numbered, end, more, numbered-append, first-then, first-here}
 use Rattle.trees.specs.Accepted.{Passed, tree-numbered, tree-passed}
 use Rattle.formats.specs.Table.{TablePassed, table-passed}
 
@@ -35,6 +35,10 @@ module _ (table r f : List ℕ) where
   pub input-found : tableItem table ≡ 0 → treeItem 3 r (vertexLabels table) (edgeLabels table) ≡ 0 → inputItem table r f ≡ treeItem 8 f (vertexLabels table) (edgeLabels table)
   unfolding inputItem tableItem treeItem
   input-found a b = first-then (recordedItems table r ++ foundItems table f) (table-numbered table) a ∙ first-then (foundItems table f) (tree-numbered 3 r (vertexLabels table) (edgeLabels table) (omega arith)) b
+
+pub input-numbered : (table r f : List ℕ) → Numbered (inputItems table r f)
+input-numbered table r f =
+    numbered-append (table-numbered table) (numbered-append (tree-numbered 3 r (vertexLabels table) (edgeLabels table) (omega arith)) (tree-numbered 8 f (vertexLabels table) (edgeLabels table) (omega arith)))
 
 -- ---- no item applies
 

@@ -15,3 +15,4 @@ pub mod Mapping
 pub mod Values
 pub mod Readout
 pub mod Duals
+pub mod Match

@@ -1,4 +1,4 @@
-//! The public constants of the library. What the bytes, items and orders of paper 01 mean is in specs/, as definitions.
+//! The public constants and answers of the library. What the bytes, items and orders of paper 01 mean is in specs/, as definitions.
 
 // The numbers that the paper fixes. The definitions have the same in specs/Limits.antt.
 pub struct Limits {}
@@ -20,4 +20,10 @@ impl Limits {
     pub const DEGREE: u8 = 8;
     // What stands where there is no vertex: in a free place, and for a vertex without partner.
     pub const NONE: u8 = 255;
+}
+
+// The answer of a match: the weight of the mapping, or the number of the item that turned the call down.
+pub enum MatchAnswer {
+    Found(i32),
+    Refused(u8),
 }

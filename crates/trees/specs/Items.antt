@@ -38,6 +38,10 @@ pub data Numbered : List Item → Type 0 where
   end : Numbered []
   more : {k : ℕ} {t : Bool} {l : List Item} → 1 ≤ k → Numbered l → Numbered (item k t ∷ l)
 
+pub numbered-append : {l m : List Item} → Numbered l → Numbered m → Numbered (l ++ m)
+numbered-append end n = n
+numbered-append (more h r) n = more h (numbered-append r n)
+
 pub first-says : (l : List Item) → firstOf l ≢ 0 → First (firstOf l) l
 unfolding firstOf
 first-says [] h = absurd (h refl)

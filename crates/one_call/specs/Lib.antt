@@ -1,0 +1,2 @@
+-- Laws of the match in one call.
+pub mod Items
