@@ -1,2 +1,4 @@
 -- Laws of the match in one call.
 pub mod Items
+pub mod Top
+pub mod Assemble

@@ -1,4 +1,6 @@
 //! The match in one call.
+pub mod top;
+
 use formats::inputs::input_item;
 use formats::tree::vertex_count;
 ghost use mathlib.Core.Path.{_≡_};

@@ -1,0 +1,6 @@
+-- Laws of reading out.
+pub mod Read
+pub mod ReadSteps
+pub mod ReadTheorems
+pub mod WeighLaws
+pub mod CycleLaws

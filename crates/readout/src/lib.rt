@@ -1,0 +1,3 @@
+//! Reading a mapping out of work numbers, and its exact weight.
+pub mod cycle;
+pub mod weigh;
