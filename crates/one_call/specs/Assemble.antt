@@ -1,17 +1,17 @@
 -- What a call has read stands for the table and the trees. Assumes nothing.
-use mathlib.Core.Path.{_≡_, refl, sym, ap, _∙_}
+use mathlib.Core.Path.{_≡_}
 use mathlib.Core.List.{List}
-use Prim.Native.Nat.{ℕ, _≤_, _<_}
-use lib.ListN.{getD, length}
+use Prim.Native.Nat.{ℕ}
 use lib.IntN.{ℤ}
 use Rattle.model.specs.Tree.{count}
 use Rattle.model.specs.Graph.{neighbourTable, edgeLabelTable}
-use Rattle.model.specs.Order.{position, subproblems}
 use Rattle.model.specs.Calls.{inputItem}
+use Rattle.model.specs.Values.{fill}
+use Rattle.subtrees.specs.Filling.{length-fill}
 use Rattle.trees.specs.Accepted.{Sound}
 use Rattle.trees.specs.Visits.{OrderOf, Ordered, ordered, ordered-different, Different, Placed, placed-position}
 use Rattle.formats.specs.Inputs.{Accepted, input-accepted}
-use Rattle.solver.specs.Plan.{EdgeWeights, Recorded, Found, Ready, Lent}
+use Rattle.solver.specs.Plan.{EdgeWeights, Ready, Lent}
 use Rattle.solver.specs.PlanLaws.{Starts}
 use Rattle.one_call.specs.Top.{AllAt}
 
@@ -50,3 +50,7 @@ module _ (table r f : List ℕ) (passes : inputItem table r f ≡ 0) where
   -- what the search for the largest value takes
   pub all-at : {numbers : List ℤ} {rnear rlabels fnear flabels : List (List ℕ)} {order places starts : List ℕ} {work : List ℤ} → Ready table r f numbers rnear rlabels fnear flabels order places starts → Lent r f work → AllAt r f work places starts
   all-at R l = record { recorded = recorded-sound; found = found-sound; placed = R .recorded .placed; offsets = R .found .offsets; enough = l .enough }
+
+-- filling keeps the work numbers' count
+pub lent-after : (table r f : List ℕ) (work work′ : List ℤ) (k c : ℕ) → Lent r f work → work′ ≡ fill table r f work k c → Lent r f work′
+lent-after table r f work work′ k c l e = record { enough = rw (e, length-fill table r f work k c) (l .enough) }

@@ -2,3 +2,4 @@
 pub mod Items
 pub mod Top
 pub mod Assemble
+pub mod Call

@@ -2,22 +2,21 @@
 use mathlib.Core.Path.{_≡_, refl, sym, ap, _∙_, subst}
 use mathlib.Core.Logic.{_⊎_, inl, inr, ⊎-elim, _≢_}
 use mathlib.Core.Bool.{Bool, true, false, cond}
-use mathlib.Core.List.{List, [], _∷_}
-use Prim.Native.Nat.{ℕ, zero, suc, _+_, _*_, _-_, _≤_, _<_}
+use mathlib.Core.List.{List}
+use Prim.Native.Nat.{ℕ, _+_, _*_, _-_, _≤_, _<_}
 use native.Mathlib.Omega.{arith}
 use native.Mathlib.Nat.{mul-le-mul}
 use lib.ListN.{getD, length}
-use lib.Dec.{T, eqb}
+use lib.Dec.{T}
 use lib.IntN.{ℤ, pos, negsuc}
-use lib.Signed.{_≤ℤ_}
 use borrow.Author.Tests.{eq-eqb}
-use Rattle.foundations.specs.Tests.{same?, less?}
+use Rattle.foundations.specs.Tests.{same?}
 use Rattle.foundations.specs.Int.{up, int, canon}
 use Rattle.foundations.specs.Members.{mem, mem-here, mem-below, below-mem, place}
 use Rattle.model.specs.Weights.{Weight, none, some, weighed, isForbidden, _⊑_}
 use Rattle.model.specs.Tree.{count}
 use Rattle.model.specs.Graph.{neighbours}
-use Rattle.model.specs.Order.{position, width, offset, slot, index, choices, subproblems}
+use Rattle.model.specs.Order.{position, width, offset, slot, index, subproblems}
 use Rattle.trees.specs.Accepted.{Sound}
 use Rattle.trees.specs.Positions.{position-low, offset-up, offset-all, index-low}
 use Rattle.model.specs.Mapping.{num}
@@ -119,6 +118,9 @@ module _ (r f : List ℕ) (work : List ℤ) where
     where
       off : {x : ℕ} → x < 0 → ⊥
       off h = omega arith
+
+  pub top-pair : (i w u v : ℕ) → TopOf r f work i 0 w u v → w ≢ 0 → (u < count r) × (v < count f)
+  top-pair i w u v t z = ⊎-elim (λ q. absurd (z q)) (λ q. (q .0, q .1)) (t .there)
 
   pub top-end : (i k w u v : ℕ) → TopOf r f work i 0 w u v → i ≡ k → TopOf r f work k 0 w u v
   top-end i k w u v t e = subst (λ (x : ℕ). TopOf r f work x 0 w u v) e t

@@ -3,11 +3,9 @@
 use formats::table::vertex_weight_at;
 use formats::tree::vertex_count;
 use formats::tree::vertex_label;
-ghost use Prim.Native.Nat.{ℕ, _+_, _*_, _<_, _≤_};
+ghost use Prim.Native.Nat.{_+_, _*_, _<_, _≤_};
 ghost use mathlib.Core.Path.{_≡_};
-ghost use mathlib.Core.List.{List, []};
-ghost use lib.ListN.{getD, length};
-ghost use Rattle.assignment.specs.Matching.{at};
+ghost use lib.ListN.{length};
 ghost use Rattle.solver.specs.Branches.{GainIs, PairGain, gainAt, gainsOf, RowReadable, RowFilled, Readable, Filled, Heaviest, Mates, nameOr, PairWeight};
 ghost use Rattle.solver.specs.Choice.{ChoiceAt};
 ghost use Rattle.solver.specs.Plan.{Known, Lent};

@@ -1,15 +1,14 @@
 -- `match_item` tests 1 to 12, then the room for work numbers, then the room for the mapping. Assumes nothing.
-use mathlib.Core.Path.{_≡_, sym, ap, _∙_}
-use Prim.Native.Nat.{ℕ, _+_, _*_, _-_, _≤_, _<_}
+use mathlib.Core.Path.{_≡_, sym, _∙_}
+use Prim.Native.Nat.{ℕ, _*_, _-_, _≤_}
 use native.Mathlib.Omega.{arith}
 use native.Mathlib.Nat.{mul-le-mul}
 use borrow.Author.Needs.{needs}
-use lib.ListN.{length}
 use Rattle.model.specs.Tree.{count}
 use Rattle.model.specs.Order.{width, subproblems}
 use Rattle.model.specs.Calls.{inputItem}
 use Rattle.trees.specs.Accepted.{Whole, Ends}
-use Rattle.formats.specs.Inputs.{Accepted, input-accepted}
+use Rattle.formats.specs.Inputs.{input-accepted}
 use Rattle.one_call.specs.Items.{match-input, match-work, match-mapping, match-none}
 use Rattle.one_call.proofs.match_item.Statement.{statement}
 use Rattle.one_call.proofs.match_item.Tie as tie
