@@ -9,7 +9,8 @@ use Rattle.model.specs.Tree.{count}
 
 -- "each takes the length its head names, or the rest if none can be known; the found layout takes all that remains"
 
--- the table takes what its head names, or all there is if that is less
+-- the table takes what its head names, or all there is if that is less; of a head that is cut off the missing bytes are read as zeros, and the
+-- length is at least 4, so it takes all there is
 unfoldable pub tablePart : List ℕ → List ℕ
 tablePart input = take (tableLength input) input
 

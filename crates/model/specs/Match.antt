@@ -14,7 +14,7 @@ use Rattle.model.specs.Calls.{matchItem}
 use Rattle.model.specs.Mapping.{Heaviest, weight}
 use Rattle.model.specs.Values.{values, answer}
 
--- the paper's number of each case of the answer, 0 where the call is not turned down; and the weight
+-- the paper's number for each case of the answer, 0 where the call is not turned down; and the weight, 0 where it is
 unfoldable pub refusalOf : MatchAnswer → ℕ
 refusalOf (Found w) = 0
 refusalOf (Refused k) = k
@@ -31,10 +31,13 @@ pub record Matched (table recorded found : List ℕ) (work : List ℤ) (mapping 
   pub heaviest : Heaviest table recorded found (take (count recorded) mapping′)
   pub exact : weight table recorded found (take (count recorded) mapping′) ≡ answer table recorded found
   pub given : a ≡ Found (answer table recorded found)
+  pub number : refusalOf a ≡ 0
+  pub weighs : weightOf a ≡ answer table recorded found
 
 -- Turned down: the number of the first item that applies, and nothing changed.
 pub record TurnedDown (item : ℕ) (work : List ℤ) (mapping : List ℕ) (work′ : List ℤ) (mapping′ : List ℕ) (a : MatchAnswer) : Type 0 where
   pub given : a ≡ Refused item
+  pub number : refusalOf a ≡ item
   pub work-kept : work′ ≡ work
   pub mapping-kept : mapping′ ≡ mapping
 

@@ -3,3 +3,4 @@ pub mod Items
 pub mod Top
 pub mod Assemble
 pub mod Call
+pub mod Answers

@@ -108,7 +108,8 @@ fn solve_and_read(
     w as i32
 }
 
-// A heaviest mapping of the two trees under the table, in the first n bytes of `mapping`; all values in order in `work`.
+// A heaviest mapping of the two trees under the table, in the first n bytes of `mapping`; all values in order in `work`. Where an item
+// applies, nothing is written.
 pub fn match_trees(
     table: &[u8],
     recorded: &[u8],

@@ -12,6 +12,7 @@ use Rattle.model.specs.Tree.{count}
 use Rattle.model.specs.Order.{subproblems}
 use Rattle.model.specs.Calls.{inputItem, matchItem}
 use Rattle.formats.specs.Inputs.{input-accepted}
+use Rattle.one_call.specs.Answers.{refused-number, found-number, found-weight}
 use Rattle.one_call.specs.Items.{match-passed}
 use Rattle.one_call.specs.Assemble.{found-sound, order-different, ready}
 use Rattle.one_call.proofs.match_trees.Statement.{statement}
@@ -37,7 +38,7 @@ same-length-2 c = search needs
 returns : tie.Need-returns
 returns c =
     let e = c .before .match-item .ensures in
-    record { refused = λ n. record { given = ap Refused e; work-kept = refl; mapping-kept = refl }; matched = λ z. absurd (c .if1 .taken (e ∙ z)) }
+    record { refused = λ n. record { given = ap Refused e; number = refused-number (ap Refused e); work-kept = refl; mapping-kept = refl }; matched = λ z. absurd (c .if1 .taken (e ∙ z)) }
 
 edge-weights-requires : tie.Need-edge-weights-requires
 edge-weights-requires c κs = input-accepted _ _ _ (passed c .0) .weights .sized
@@ -83,9 +84,10 @@ returns-2 c =
     let s = c .before .before .before .solve-and-read .ensures in
     let w = c .before .before .before .solve-and-read .result in
     let q : toZ w32 (ofZ w32 w) ≡ w = back {z = w} (c .before .before .before .solve-and-read .ok) in
+    let g = ap (λ (y : ℤ). Found y) q ∙ ap Found (s .answered) in
     record {
       refused = λ n. absurd (n (zero e));
-      matched = λ z. record { values-left = s .filled; rest = s .rest; heaviest = s .heaviest; exact = s .exact; given = ap (λ (y : ℤ). Found y) q ∙ ap Found (s .answered) };
+      matched = λ z. record { values-left = s .filled; rest = s .rest; heaviest = s .heaviest; exact = s .exact; given = g; number = found-number g; weighs = found-weight g };
     }
 
 pub match-trees-spec : {M : Type 1} → statement M
