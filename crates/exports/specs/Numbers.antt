@@ -1,0 +1,33 @@
+-- What a caller of the exported match may conclude from its two numbers. Assumes nothing.
+use mathlib.Core.Path.{_≡_, sym, ap, _∙_}
+use mathlib.Core.Logic.{_≢_, ⊎-elim}
+use mathlib.Core.List.{List}
+use Prim.Native.Nat.{ℕ}
+use lib.ListN.{take}
+use lib.IntN.{ℤ, pos}
+use Rattle.foundations.specs.Tests.{same?}
+use Rattle.model.specs.Tree.{count}
+use Rattle.model.specs.Calls.{matchItem}
+use Rattle.model.specs.Mapping.{Heaviest, weight}
+use Rattle.model.specs.Match.{weightOf}
+use Rattle.exports.specs.Exported.{Exported}
+
+module _ (table r f : List ℕ) (work : List ℤ) (mapping : List ℕ) (work′ : List ℤ) (mapping′ : List ℕ) (refusal : ℕ) (w : ℤ) (e : Exported table r f work mapping work′ mapping′ refusal w) where
+  -- the first number is the first item that applies, 0 for none
+  pub refusal-is : refusal ≡ matchItem table r f work mapping
+  refusal-is =
+      let i = matchItem table r f work mapping in
+      e .number ∙ ⊎-elim (λ z. e .call .matched z .number ∙ sym z) (λ n. e .call .refused n .number) (same? i 0)
+
+  -- where it is not 0, the second is 0 and nothing has changed
+  pub refused-keeps : refusal ≢ 0 → (w ≡ pos 0) × (work′ ≡ work) × (mapping′ ≡ mapping)
+  unfolding weightOf
+  refused-keeps n =
+      let t = e .call .refused (λ z. n (refusal-is ∙ z)) in
+      (e .weighs ∙ ap weightOf (t .given), t .work-kept, t .mapping-kept)
+
+  -- where it is 0, a heaviest mapping is left, and the second is its weight
+  pub heaviest-left : refusal ≡ 0 → Heaviest table r f (take (count r) mapping′) × (w ≡ weight table r f (take (count r) mapping′))
+  heaviest-left z =
+      let m = e .call .matched (sym refusal-is ∙ z) in
+      (m .heaviest, e .weighs ∙ m .weighs ∙ sym (m .exact))
