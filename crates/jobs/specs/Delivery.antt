@@ -2,8 +2,8 @@
 use mathlib.Core.Path.{_≡_, refl, sym, ap, _∙_, subst}
 use mathlib.Core.Logic.{_≢_, ⊎-elim}
 use mathlib.Core.List.{List, _++_}
-use Prim.Native.Nat.{ℕ, _≤_, _<_}
-use lib.ListN.{length, take, drop, replicate, take-append-drop, length-replicate}
+use Prim.Native.Nat.{ℕ, _<_}
+use lib.ListN.{take, drop, replicate, take-append-drop, length-replicate}
 use lib.Seq.{take-at}
 use lib.IntN.{ℤ, pos}
 use Rattle.model.specs.declared.MatchAnswer.{MatchAnswer}

@@ -1,21 +1,21 @@
 -- Item 16: work numbers that it lets pass are forbidden where the pair is, and the values pass it. Assumes nothing.
-use mathlib.Core.Path.{_≡_, refl, sym, ap, _∙_, subst}
+use mathlib.Core.Path.{_≡_, refl, subst}
 use mathlib.Core.Logic.{⊎-elim, _≢_}
-use mathlib.Core.Bool.{true, _&&_}
+use mathlib.Core.Bool.{true}
 use mathlib.Core.List.{List}
 use Prim.Native.Nat.{ℕ, _≤_, _<_}
 use native.Mathlib.Omega.{arith}
-use lib.ListN.{getD, take}
+use lib.ListN.{getD}
 use lib.IntN.{ℤ, pos, negℤ}
 use lib.Signed.{leZ, _≤ℤ_}
-use Rattle.foundations.specs.Lists.{every, every-at, every-all}
+use Rattle.foundations.specs.Lists.{every-at, every-all}
 use Rattle.foundations.specs.Tests.{T→true}
 use Rattle.model.specs.Limits.{weightLimit, ceiling, forbidden}
 use Rattle.model.specs.Weights.{Weight, none, some, isForbidden, weighed}
 use Rattle.model.specs.Calls.{inputItem}
 use Rattle.model.specs.Order.{subproblems, index, uAt, vAt, sAt}
 use Rattle.model.specs.Pairs.{vertexPair}
-use Rattle.model.specs.Values.{Subproblem, recalled, values}
+use Rattle.model.specs.Values.{recalled, values}
 use Rattle.model.specs.Jobs.{numberOk, workOk}
 use Rattle.trees.specs.Positions.{Sub, index-once}
 use Rattle.formats.specs.Inputs.{Accepted, input-accepted}

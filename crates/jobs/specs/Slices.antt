@@ -1,29 +1,26 @@
 -- A job in slices over undisturbed memory: after any advances the work numbers begin with the values as far as the position, every advance is
 -- accepted and counts the smaller of its budget and what is left, and at the end the mapping is a heaviest one. Assumes nothing.
-use mathlib.Core.Path.{_≡_, refl, sym, ap, _∙_, subst}
+use mathlib.Core.Path.{_≡_, sym, ap, _∙_, subst}
 use mathlib.Core.Bool.{true, false}
 use mathlib.Core.List.{List, [], _∷_, _++_}
-use Prim.Native.Nat.{ℕ, zero, suc, _+_, _*_, _-_, _≤_, _<_, min}
+use Prim.Native.Nat.{ℕ, _+_, _*_, _-_, _≤_, _<_, min}
 use native.Mathlib.Omega.{arith}
-use lib.ListN.{length, getD, take, drop, length-take, length-drop, length-append, List·getD-append}
+use lib.ListN.{length, getD, take, drop, length-take, length-drop, length-append}
 use lib.Seq.{take-at, drop-at, drop-drop, getD-take, take-all}
 use lib.IntN.{ℤ, pos}
 use borrow.Author.Tests.{le-leb, le-ltb, eq-eqb}
 use Rattle.model.specs.declared.JobRecord.{JobRecord}
 use Rattle.model.specs.declared.AdvanceAnswer.the-variants.{Advanced}
 use Rattle.model.specs.declared.StartAnswer.the-variants.{Started}
-use Rattle.model.specs.declared.MatchAnswer.{MatchAnswer}
-use Rattle.model.specs.declared.MatchAnswer.the-variants.{Found}
 use Rattle.model.specs.Tree.{count}
 use Rattle.model.specs.Order.{width, subproblems}
 use Rattle.model.specs.Calls.{inputItem}
-use Rattle.model.specs.Mapping.{Heaviest}
 use Rattle.model.specs.Values.{values, answer, fill}
-use Rattle.model.specs.Jobs.{totalLimit, recordOk, sameTrees, isLeft, workOk, startItem, advanceItem, finishItem, started, startOf, slice, advanced, advanceOf, advanceWork, FinishCall}
+use Rattle.model.specs.Jobs.{totalLimit, recordOk, sameTrees, isLeft, workOk, startItem, advanceItem, finishItem, started, startOf, slice, advanced, advanceOf, advanceWork}
 use Rattle.formats.specs.Inputs.{Accepted, input-accepted}
 use Rattle.subtrees.specs.Filling.{values-long}
 use Rattle.subtrees.specs.Theorems.{fill-prefix}
-use Rattle.job_items.specs.Items.{start-none, start-passed, earlyItem, early-none, advance-none, finish-none}
+use Rattle.job_items.specs.Items.{start-none, earlyItem, early-none, advance-none, finish-none}
 use Rattle.jobs.specs.Fits.{values-pass}
 
 -- ---- the record and the work numbers after the advances of a list of budgets, nothing else touching them

@@ -1,21 +1,17 @@
 -- The main theorems of jobs, over the definitions alone: the first item that applies (`refusal-first` of the three calls), the job in slices
 -- (`sliced-job`), and finishing over any memory (`altered-finish`). Assumes nothing.
 use mathlib.Core.Path.{_≡_, refl, sym, ap, _∙_}
-use mathlib.Core.Logic.{_≢_, ⊎-elim, _↔_}
-use mathlib.Core.Bool.{Bool, true, false, cond}
+use mathlib.Core.Logic.{_≢_, ⊎-elim}
 use mathlib.Core.List.{List, _++_}
 use Prim.Native.Nat.{ℕ, _+_, _-_, _≤_, min}
 use native.Mathlib.Omega.{arith}
 use native.Mathlib.Nat.{zero-add}
 use lib.ListN.{length, take, drop}
-use lib.Dec.{eqb}
 use lib.IntN.{ℤ}
 use borrow.Author.Tests.{ne-eqb}
 use Rattle.foundations.specs.Tests.{same?}
 use Rattle.model.specs.declared.JobRecord.{JobRecord}
-use Rattle.model.specs.declared.StartAnswer.{StartAnswer}
 use Rattle.model.specs.declared.StartAnswer.the-variants as start
-use Rattle.model.specs.declared.AdvanceAnswer.{AdvanceAnswer}
 use Rattle.model.specs.declared.AdvanceAnswer.the-variants.{Advanced}
 use Rattle.model.specs.declared.AdvanceAnswer.the-variants as advance
 use Rattle.model.specs.declared.MatchAnswer.{MatchAnswer}
@@ -25,7 +21,7 @@ use Rattle.model.specs.Order.{subproblems}
 use Rattle.model.specs.Mapping.{IsMapping, Heaviest, weight}
 use Rattle.model.specs.Values.{values, answer}
 use Rattle.model.specs.Match.{refusalOf, weightOf}
-use Rattle.model.specs.Jobs.{totalLimit, startItem, advanceItem, finishItem, startOf, started, slice, advanceOf, advanceWork, startRefusal, advanceRefusal, advanceCount, FinishCall}
+use Rattle.model.specs.Jobs.{startItem, advanceItem, finishItem, startOf, started, slice, advanceOf, advanceWork, startRefusal, advanceRefusal, advanceCount, FinishCall}
 use Rattle.job_items.specs.Items.{start-passed}
 use Rattle.jobs.specs.Slices.{jobAfter, workAfter, together, Running, start-accepted, advance-accepted, running-item, running-counts, running-step, running-finish, running-values, running-all}
 

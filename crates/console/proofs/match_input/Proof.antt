@@ -3,10 +3,6 @@ use Rattle.console.specs.Room.{match-parts}
 use borrow.Author.Needs.{needs}
 use Rattle.console.proofs.match_input.Statement.{statement}
 use Rattle.console.proofs.match_input.Tie as tie
-use Rattle.console.proofs.match_input.Reads as reads
-use Rattle.console.proofs.match_input.Lts as lts
-use Rattle.formats.proofs.split.split.Reads as split-reads
-use Rattle.one_call.proofs.match_trees.Reads as match-trees-reads
 
 split-requires : tie.Need-split-requires
 split-requires c κs = search needs

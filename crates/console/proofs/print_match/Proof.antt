@@ -11,13 +11,6 @@ use Rattle.console.specs.Room.{found-room}
 use borrow.Author.Needs.{needs}
 use Rattle.console.proofs.print_match.Statement.{statement}
 use Rattle.console.proofs.print_match.Tie as tie
-use Rattle.console.proofs.print_match.Reads as reads
-use Rattle.console.proofs.print_match.Lts as lts
-use Rattle.console.proofs.match_input.Reads as match-input-reads
-use Rattle.console.proofs.print_number.Reads as print-number-reads
-use Rattle.console.proofs.print_partners.Reads as print-partners-reads
-use Rattle.console.proofs.recorded_count.Reads as recorded-count-reads
-use Rattle.integers.proofs.gain.Reads as gain-reads
 
 -- the arm that is taken says what the answer is
 tag-found : (a : MatchAnswer) → tagOf the-type a ≡ 0 → refusalOf a ≡ 0

@@ -1,10 +1,8 @@
+-- `print_partners` meets its contract. Assumes nothing.
 use borrow.Author.Needs.{needs}
 use Prim.Native.Nat.{_≤_, _-_}
 use Rattle.console.proofs.print_partners.Statement.{statement}
 use Rattle.console.proofs.print_partners.Tie as tie
-use Rattle.console.proofs.print_partners.Reads as reads
-use Rattle.console.proofs.print_partners.Lts as lts
-use Rattle.console.proofs.print_partner.Reads as print-partner-reads
 
 abbrev Inv-loop : tie.InvT-loop
 Inv-loop mapping n u₀ u = u ≤ n

@@ -4,10 +4,6 @@ use Rattle.model.specs.Tree.{count}
 use borrow.Author.Needs.{needs}
 use Rattle.console.proofs.recorded_count.Statement.{statement}
 use Rattle.console.proofs.recorded_count.Tie as tie
-use Rattle.console.proofs.recorded_count.Reads as reads
-use Rattle.console.proofs.recorded_count.Lts as lts
-use Rattle.formats.proofs.bytes.byte_or_zero.Reads as byte-or-zero-reads
-use Rattle.formats.proofs.split.split.Reads as split-reads
 
 split-requires : tie.Need-split-requires
 split-requires c κs = search needs

@@ -8,17 +8,9 @@ use Rattle.trees.specs.Accepted.{Whole, Ends}
 use Rattle.formats.specs.Inputs.{input-accepted}
 use Rattle.one_call.specs.Top.{top-pair}
 use Rattle.jobs.specs.Delivery.{known-all, delivered-empty, read-legal, delivered-read}
-use native.Mathlib.Omega.{arith}
 use borrow.Author.Needs.{needs}
 use Rattle.jobs.proofs.delivery.deliver.Statement.{statement}
 use Rattle.jobs.proofs.delivery.deliver.Tie as tie
-use Rattle.jobs.proofs.delivery.deliver.Reads as reads
-use Rattle.jobs.proofs.delivery.deliver.Lts as lts
-use Rattle.formats.proofs.tree.vertex_count.Reads as vertex-count-reads
-use Rattle.one_call.proofs.top.largest.Reads as largest-reads
-use Rattle.readout.proofs.cycle.clear.Reads as clear-reads
-use Rattle.readout.proofs.cycle.read_out.Reads as read-out-reads
-use Rattle.readout.proofs.weigh.weigh.Reads as weigh-reads
 
 whole : {s : List ℕ} {n : ℕ} → Ends s n → Whole s n
 whole e = record { some = e .some; few = e .few; long = e .long }
