@@ -1,21 +1,22 @@
 -- The items of start, advance and finish, one after the other. Assumes nothing.
 use mathlib.Core.Path.{_≡_, refl, sym, _∙_}
 use mathlib.Core.Logic.{_≢_, ⊎-elim}
-use mathlib.Core.Bool.{Bool, true, false, not, cond, _&&_}
+use mathlib.Core.Bool.{Bool, true, false, not, cond, _&&_, true≢false}
 use mathlib.Core.List.{List, [], _∷_, _++_}
 use Prim.Native.Nat.{ℕ, _*_, _-_, _≤_, _<_}
 use native.Mathlib.Omega.{arith}
+use native.Mathlib.Nat.{mul-le-mul}
 use lib.ListN.{length}
 use lib.Dec.{eqb, ltb, leb}
 use lib.IntN.{ℤ}
 use borrow.Author.Tests.{lt-ltb, le-ltb, eqb-true, leb-true}
 use Rattle.foundations.specs.Tests.{same?, less?, and-split}
 use Rattle.model.specs.declared.JobRecord.{JobRecord}
-use Rattle.model.specs.Refusals.{Item, item, firstOf}
+use Rattle.model.specs.Refusals.{item, firstOf}
 use Rattle.model.specs.Tree.{count}
 use Rattle.model.specs.Order.{width, subproblems}
 use Rattle.model.specs.Calls.{inputItems, inputItem, workItem, mappingItem}
-use Rattle.model.specs.Jobs.{countOk, recordOk, sameTrees, workOk, isLeft, startItems, advanceItems, finishItems, startItem, advanceItem, finishItem}
+use Rattle.model.specs.Jobs.{countOk, recordOk, sameTrees, workOk, isLeft, startItems, advanceItems, startItem, advanceItem, finishItem}
 use Rattle.trees.specs.Items.{Numbered, end, more, numbered-append, first-here, first-then}
 use Rattle.formats.specs.Inputs.{input-numbered}
 
@@ -38,6 +39,55 @@ not-off false k x l h = absurd (omega arith)
 cond-off : (t : Bool) (k x : ℕ) → 1 ≤ k → cond t k x ≡ 0 → (t ≡ false) × (x ≡ 0)
 cond-off true k x l h = absurd (omega arith)
 cond-off false k x l h = (refl, h)
+
+-- ---- 14 and 17 as the code tests them
+
+-- the record is not idle and its counts may be those of trees
+abbrev early : JobRecord → Bool
+early j = not (j .idle) && (countOk (j .n) && countOk (j .m))
+
+and-end : (a b c d : Bool) → (a && (b && c)) ≡ true → (a && (b && (c && d))) ≡ d
+and-end true true true d h = refl
+and-end true true false d h = absurd (true≢false (sym h))
+and-end true false c d h = absurd (true≢false (sym h))
+and-end false b c d h = absurd (true≢false (sym h))
+
+and-none : (a b c d : Bool) → (a && (b && c)) ≡ false → (a && (b && (c && d))) ≡ false
+and-none true true true d h = absurd (true≢false h)
+and-none true true false d h = refl
+and-none true false c d h = refl
+and-none false b c d h = refl
+
+pub record-fails : (j : JobRecord) → early j ≡ false → recordOk j ≡ false
+unfolding recordOk
+record-fails j h = and-none (not (j .idle)) (countOk (j .n)) (countOk (j .m)) (leb (j .position) (j .n * (3 * j .m - 2))) h
+
+pub record-is : (j : JobRecord) → early j ≡ true → recordOk j ≡ leb (j .position) (j .n * (3 * j .m - 2))
+unfolding recordOk
+record-is j h = and-end (not (j .idle)) (countOk (j .n)) (countOk (j .m)) (leb (j .position) (j .n * (3 * j .m - 2))) h
+
+-- the counts are then small, and so is their product
+pub record-small : (j : JobRecord) → early j ≡ true → (1 ≤ j .m) × (j .m ≤ 64) × (j .n ≤ 64)
+record-small j h =
+    let a = and-split (not (j .idle)) (countOk (j .n) && countOk (j .m)) h .1 in
+    let b = and-split (countOk (j .n)) (countOk (j .m)) a in
+    let n = and-split (leb 1 (j .n)) (leb (j .n) 64) (b .0) in
+    let m = and-split (leb 1 (j .m)) (leb (j .m) 64) (b .1) in
+    (leb-true 1 (j .m) (m .0), leb-true (j .m) 64 (m .1), leb-true (j .n) 64 (n .1))
+
+pub product-fits : (n x : ℕ) → n ≤ 64 → x ≤ 192 → n * x < 4294967296
+product-fits n x k l = let h : n * x ≤ 64 * 192 = mul-le-mul k l in omega arith
+
+pub left-none : (j : JobRecord) (r f : List ℕ) (m : ℕ) → m ≡ count f → m ≡ 0 → false ≡ isLeft j r f
+unfolding isLeft subproblems width
+left-none j r f m e z =
+    let w : 3 * count f - 2 ≡ 0 = omega arith in
+    let p : count r * (3 * count f - 2) ≡ 0 = rw w (omega arith) in
+    sym (le-ltb (j .position) (count r * (3 * count f - 2)) (omega arith))
+
+pub left-is : (j : JobRecord) (r f : List ℕ) (n m : ℕ) → n ≡ count r → m ≡ count f → ltb (j .position) (n * (3 * m - 2)) ≡ isLeft j r f
+unfolding isLeft subproblems width
+left-is j r f n m d e = rw (d, e)
 
 module _ (table r f : List ℕ) (work : List ℤ) where
   -- ---- start: 1 to 13

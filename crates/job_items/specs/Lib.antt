@@ -1,2 +1,3 @@
 -- Laws of the items of a job.
 pub mod Items
+pub mod Work

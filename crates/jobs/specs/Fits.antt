@@ -8,6 +8,7 @@ use native.Mathlib.Omega.{arith}
 use lib.ListN.{getD}
 use lib.IntN.{ℤ, pos, negℤ}
 use lib.Signed.{leZ, _≤ℤ_}
+use borrow.Author.Tests.{ltb-false}
 use Rattle.foundations.specs.Lists.{every-at, every-all}
 use Rattle.foundations.specs.Tests.{T→true}
 use Rattle.model.specs.Limits.{weightLimit, ceiling, forbidden}
@@ -16,7 +17,8 @@ use Rattle.model.specs.Calls.{inputItem}
 use Rattle.model.specs.Order.{subproblems, index, uAt, vAt, sAt}
 use Rattle.model.specs.Pairs.{vertexPair}
 use Rattle.model.specs.Values.{recalled, values}
-use Rattle.model.specs.Jobs.{numberOk, workOk}
+use Rattle.model.specs.declared.JobRecord.{JobRecord}
+use Rattle.model.specs.Jobs.{numberOk, workOk, isLeft, finishItem}
 use Rattle.trees.specs.Positions.{Sub, index-once}
 use Rattle.formats.specs.Inputs.{Accepted, input-accepted}
 use Rattle.subtrees.specs.Accepted.{recorded-tree, found-tree}
@@ -24,6 +26,7 @@ use Rattle.subtrees.specs.Filling.{sub-here, index-low-at}
 use Rattle.subtrees.specs.Theorems.{values-range}
 use Rattle.subtrees.specs.Trees.{IsTree}
 use Rattle.readout.specs.Read.{WorkFits}
+use Rattle.job_items.specs.Items.{early-passed, advance-passed, finish-passed}
 
 -- a number that passes at a forbidden pair says so
 forbidden-number : (z : ℤ) → numberOk none z ≡ true → weighed z ≡ none
@@ -66,3 +69,15 @@ module _ (table r f : List ℕ) (passes : inputItem table r f ≡ 0) (work : Lis
           (λ e. rw (e .0, same k h, e .1))
           (λ e. rw (same k h) (allowed-number (vertexPair table r f (uAt r f k) (vAt f k)) (getD (values table r f) k (pos 0)) (e .0) (e .1) (e .2)))
           (values-range table r f passes k low)
+
+-- where no item refuses a finish, every work number was tested
+pub finish-fits : (table r f : List ℕ) (work : List ℤ) (j : JobRecord) (mapping : List ℕ) → finishItem j table r f work mapping ≡ 0 → WorkFits table r f work
+unfolding isLeft
+finish-fits table r f work j mapping h =
+    let p = finish-passed table r f work j mapping h in
+    let a = advance-passed table r f work j (p .0) in
+    let e = early-passed table r f work j (a .0) in
+    let most : j .position ≤ subproblems r f = e .4 in
+    let all : subproblems r f ≤ j .position = ltb-false (j .position) (subproblems r f) (p .1) in
+    let same : j .position ≡ subproblems r f = omega arith in
+    work-fits table r f (e .0) work (subst (λ (k : ℕ). workOk table r f work k ≡ true) same (a .1))

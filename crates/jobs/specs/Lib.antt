@@ -1,5 +1,6 @@
 -- Laws of jobs.
 pub mod Fits
 pub mod Delivery
+pub mod Outcomes
 pub mod Slices
 pub mod Theorems

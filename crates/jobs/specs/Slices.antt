@@ -11,17 +11,17 @@ use lib.IntN.{ℤ, pos}
 use borrow.Author.Tests.{le-leb, le-ltb, eq-eqb}
 use Rattle.model.specs.declared.JobRecord.{JobRecord}
 use Rattle.model.specs.declared.AdvanceAnswer.the-variants.{Advanced}
-use Rattle.model.specs.declared.StartAnswer.the-variants.{Started}
 use Rattle.model.specs.Tree.{count}
 use Rattle.model.specs.Order.{width, subproblems}
 use Rattle.model.specs.Calls.{inputItem}
-use Rattle.model.specs.Values.{values, answer, fill}
-use Rattle.model.specs.Jobs.{totalLimit, recordOk, sameTrees, isLeft, workOk, startItem, advanceItem, finishItem, started, startOf, slice, advanced, advanceOf, advanceWork}
+use Rattle.model.specs.Values.{values, answer}
+use Rattle.model.specs.Jobs.{totalLimit, recordOk, sameTrees, isLeft, workOk, advanceItem, finishItem, slice, advanced, advanceOf, advanceWork}
 use Rattle.formats.specs.Inputs.{Accepted, input-accepted}
 use Rattle.subtrees.specs.Filling.{values-long}
 use Rattle.subtrees.specs.Theorems.{fill-prefix}
 use Rattle.job_items.specs.Items.{start-none, earlyItem, early-none, advance-none, finish-none}
 use Rattle.jobs.specs.Fits.{values-pass}
+use Rattle.jobs.specs.Outcomes.{advance-accepted, advance-fills}
 
 -- ---- the record and the work numbers after the advances of a list of budgets, nothing else touching them
 
@@ -46,20 +46,6 @@ pub record Running (table r f : List ℕ) (work₀ : List ℤ) (total₀ p : ℕ
   pub low : p ≤ subproblems r f
   pub total : total₀ ≤ totalLimit → j .total ≡ min (total₀ + p) totalLimit
   pub filled : work ≡ take p (values table r f) ++ drop p work₀
-
--- ---- an accepted call
-
-pub start-accepted : (j : JobRecord) (table r f : List ℕ) (work : List ℤ) → startItem table r f work ≡ 0 → startOf j table r f work ≡ record { job = started j r f; answer = Started }
-unfolding startOf
-start-accepted j table r f work e = rw e
-
-pub advance-accepted : (j : JobRecord) (table r f : List ℕ) (b : ℕ) (work : List ℤ) → advanceItem j table r f work ≡ 0 → advanceOf j table r f b work ≡ record { job = advanced j (slice j r f b); answer = Advanced (slice j r f b) }
-unfolding advanceOf
-advance-accepted j table r f b work e = rw e
-
-pub advance-fills : (j : JobRecord) (table r f : List ℕ) (b : ℕ) (work : List ℤ) → advanceItem j table r f work ≡ 0 → advanceWork j table r f b work ≡ fill table r f work (j .position) (slice j r f b)
-unfolding advanceWork
-advance-fills j table r f b work e = rw e
 
 module _ (table r f : List ℕ) (passes : inputItem table r f ≡ 0) (work₀ : List ℤ) (enough : subproblems r f ≤ length work₀) (total₀ : ℕ) where
   A : Accepted table r f

@@ -8,14 +8,11 @@ use native.Mathlib.Omega.{arith}
 use native.Mathlib.Nat.{zero-add}
 use lib.ListN.{length, take, drop}
 use lib.IntN.{ℤ}
-use borrow.Author.Tests.{ne-eqb}
 use Rattle.foundations.specs.Tests.{same?}
 use Rattle.model.specs.declared.JobRecord.{JobRecord}
-use Rattle.model.specs.declared.StartAnswer.the-variants as start
 use Rattle.model.specs.declared.AdvanceAnswer.the-variants.{Advanced}
-use Rattle.model.specs.declared.AdvanceAnswer.the-variants as advance
 use Rattle.model.specs.declared.MatchAnswer.{MatchAnswer}
-use Rattle.model.specs.declared.MatchAnswer.the-variants.{Found, Refused}
+use Rattle.model.specs.declared.MatchAnswer.the-variants.{Found}
 use Rattle.model.specs.Tree.{count}
 use Rattle.model.specs.Order.{subproblems}
 use Rattle.model.specs.Mapping.{IsMapping, Heaviest, weight}
@@ -23,43 +20,35 @@ use Rattle.model.specs.Values.{values, answer}
 use Rattle.model.specs.Match.{refusalOf, weightOf}
 use Rattle.model.specs.Jobs.{startItem, advanceItem, finishItem, startOf, started, slice, advanceOf, advanceWork, startRefusal, advanceRefusal, advanceCount, FinishCall}
 use Rattle.job_items.specs.Items.{start-passed}
-use Rattle.jobs.specs.Slices.{jobAfter, workAfter, together, Running, start-accepted, advance-accepted, running-item, running-counts, running-step, running-finish, running-values, running-all}
+use Rattle.jobs.specs.Outcomes.{start-accepted, advance-accepted, start-refused, advance-refused, advance-unfilled}
+use Rattle.jobs.specs.Slices.{jobAfter, workAfter, together, Running, running-item, running-counts, running-step, running-finish, running-values, running-all}
 
 -- ---- the first item that applies, and what a refusal leaves
 
 module _ (j : JobRecord) (table r f : List ℕ) (work : List ℤ) where
-  start-refused : startItem table r f work ≢ 0 → startOf j table r f work ≡ record { job = j; answer = start.Refused (startItem table r f work) }
-  unfolding startOf
-  start-refused n = rw (ne-eqb (startItem table r f work) 0 n)
-
   -- the answer's number is the first item that applies, 0 for none
   pub start-refusal : startRefusal (startOf j table r f work .answer) ≡ startItem table r f work
   unfolding startRefusal
   start-refusal = ⊎-elim
       (λ e. ap (λ o. startRefusal (o .answer)) (start-accepted j table r f work e) ∙ sym e)
-      (λ n. ap (λ o. startRefusal (o .answer)) (start-refused n))
+      (λ n. ap (λ o. startRefusal (o .answer)) (start-refused j table r f work n))
       (same? (startItem table r f work) 0)
 
   -- a refused start leaves the record
   pub start-keeps : startItem table r f work ≢ 0 → startOf j table r f work .job ≡ j
-  start-keeps n = ap (λ o. o .job) (start-refused n)
+  start-keeps n = ap (λ o. o .job) (start-refused j table r f work n)
 
   module _ (b : ℕ) where
-    advance-refused : advanceItem j table r f work ≢ 0 → advanceOf j table r f b work ≡ record { job = j; answer = advance.Refused (advanceItem j table r f work) }
-    unfolding advanceOf
-    advance-refused n = rw (ne-eqb (advanceItem j table r f work) 0 n)
-
     pub advance-refusal : advanceRefusal (advanceOf j table r f b work .answer) ≡ advanceItem j table r f work
     unfolding advanceRefusal
     advance-refusal = ⊎-elim
         (λ e. ap (λ o. advanceRefusal (o .answer)) (advance-accepted j table r f b work e) ∙ sym e)
-        (λ n. ap (λ o. advanceRefusal (o .answer)) (advance-refused n))
+        (λ n. ap (λ o. advanceRefusal (o .answer)) (advance-refused j table r f b work n))
         (same? (advanceItem j table r f work) 0)
 
     -- a refused advance leaves the record and the work numbers
     pub advance-keeps : advanceItem j table r f work ≢ 0 → (advanceOf j table r f b work .job ≡ j) × (advanceWork j table r f b work ≡ work)
-    unfolding advanceWork
-    advance-keeps n = (ap (λ o. o .job) (advance-refused n), rw (ne-eqb (advanceItem j table r f work) 0 n))
+    advance-keeps n = (ap (λ o. o .job) (advance-refused j table r f b work n), advance-unfilled j table r f b work n)
 
     -- an accepted one counts the smaller of the budget and what is left
     pub advance-count : advanceItem j table r f work ≡ 0 → advanceCount (advanceOf j table r f b work .answer) ≡ min b (subproblems r f - j .position)

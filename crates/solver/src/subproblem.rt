@@ -204,7 +204,7 @@ fn mates(
 }
 
 // The weight of the pair of recorded vertex u and found vertex v.
-fn pair_weight(table: &[u8], recorded: &[u8], found: &[u8], u: u8, v: u8) -> i32
+pub fn pair_weight(table: &[u8], recorded: &[u8], found: &[u8], u: u8, v: u8) -> i32
     requires { ⌜ Accepted (now table) (now recorded) (now found) ⌝ }
     requires { ⌜ (u < count (now recorded)) × (v < count (now found)) ⌝ }
     ensures { λ r. ⌜ PairWeight (now (table .entry)) (now (recorded .entry)) (now (found .entry)) u v r ⌝ }
