@@ -16,3 +16,4 @@ pub mod Values
 pub mod Readout
 pub mod Duals
 pub mod Match
+pub mod Jobs

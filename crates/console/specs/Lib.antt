@@ -1,0 +1,2 @@
+-- Laws of the match program.
+pub mod Room
