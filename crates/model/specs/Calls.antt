@@ -1,4 +1,4 @@
--- The items that a call tests, in its order. Paper 01, last paragraph of "Why a call is turned down". Every call begins with 1 to 12; so far the match's list is here.
+-- The items that a call tests, in its order. Paper 01, last paragraph of "Why a call is turned down". Every call begins with 1 to 12; the lists of the job calls are in Jobs.
 use mathlib.Core.List.{List, [], _∷_, _++_}
 use Prim.Native.Nat.{ℕ}
 use lib.ListN.{length}

@@ -20,7 +20,7 @@ use Rattle.model.specs.declared.AdvanceAnswer.the-variants as advance
 use Rattle.model.specs.declared.StartOutcome.{StartOutcome}
 use Rattle.model.specs.declared.AdvanceOutcome.{AdvanceOutcome}
 use Rattle.model.specs.declared.MatchAnswer.{MatchAnswer}
-use Rattle.model.specs.declared.MatchAnswer.the-variants.{Found, Refused}
+use Rattle.model.specs.declared.MatchAnswer.the-variants.{Found}
 use Rattle.model.specs.Limits.{weightLimit, ceiling, vertexLimit}
 use Rattle.model.specs.Refusals.{Item, item, firstOf}
 use Rattle.model.specs.Weights.{Weight, none, some, isForbidden}
@@ -28,8 +28,9 @@ use Rattle.model.specs.Tree.{count}
 use Rattle.model.specs.Order.{subproblems, uAt, vAt}
 use Rattle.model.specs.Pairs.{vertexPair}
 use Rattle.model.specs.Mapping.{IsMapping, Heaviest, weight}
-use Rattle.model.specs.Values.{values, fill}
+use Rattle.model.specs.Values.{values, answer, fill}
 use Rattle.model.specs.Calls.{inputItems, workItem, mappingItem}
+use Rattle.model.specs.Match.{refusalOf, weightOf, TurnedDown}
 
 -- ---- the record
 
@@ -122,7 +123,8 @@ advanceWork j table recorded found budget work =
     (fill table recorded found work (j .position) (slice j recorded found budget))
     work
 
--- the paper's number for each answer, 0 where the call is not turned down; and the count, 0 where it is
+-- the paper's number for each answer, 0 where the call is not turned down; and the count, 0 where it is. What `startOf` and `advanceOf` answer in
+-- these numbers: `start-refusal`, `advance-refusal` and `advance-count` (crates/jobs)
 unfoldable pub startRefusal : StartAnswer → ℕ
 startRefusal Started = 0
 startRefusal (start.Refused k) = k
@@ -135,16 +137,19 @@ unfoldable pub advanceCount : AdvanceAnswer → ℕ
 advanceCount (Advanced c) = c
 advanceCount (advance.Refused k) = 0
 
--- ---- finish: a mapping in the first n bytes and the rest as it was, its exact weight, and a heaviest one over undisturbed memory, that is where
--- the work numbers are the values. Which mapping is the program's choice.
+-- ---- finish: a mapping in the first n bytes and the rest as it was, and its exact weight; over undisturbed memory, that is where the work numbers
+-- are the values, a heaviest one, which weighs the answer. Which mapping is the program's choice.
 
 pub record Finished (table recorded found : List ℕ) (work : List ℤ) (mapping mapping′ : List ℕ) (a : MatchAnswer) : Type 0 where
   pub rest : mapping′ ≡ take (count recorded) mapping′ ++ drop (count recorded) mapping
   pub legal : IsMapping table recorded found (take (count recorded) mapping′)
   pub given : a ≡ Found (weight table recorded found (take (count recorded) mapping′))
+  pub number : refusalOf a ≡ 0
+  pub weighs : weightOf a ≡ weight table recorded found (take (count recorded) mapping′)
   pub heaviest : take (subproblems recorded found) work ≡ values table recorded found → Heaviest table recorded found (take (count recorded) mapping′)
+  pub answered : take (subproblems recorded found) work ≡ values table recorded found → a ≡ Found (answer table recorded found)
 
 -- the call: the record and the work numbers are only read
 pub record FinishCall (j : JobRecord) (table recorded found : List ℕ) (work : List ℤ) (mapping mapping′ : List ℕ) (a : MatchAnswer) : Type 0 where
-  pub refused : finishItem j table recorded found work mapping ≢ 0 → (a ≡ Refused (finishItem j table recorded found work mapping)) × (mapping′ ≡ mapping)
+  pub refused : finishItem j table recorded found work mapping ≢ 0 → TurnedDown (finishItem j table recorded found work mapping) work mapping work mapping′ a
   pub finished : finishItem j table recorded found work mapping ≡ 0 → Finished table recorded found work mapping mapping′ a

@@ -1,0 +1,2 @@
+-- Laws of the items of a job.
+pub mod Items
