@@ -1,4 +1,4 @@
--- Trees whose items, and whose neighbours, the definitions compute. Assumes nothing.
+-- Trees whose items, and whose neighbours, the definitions compute (case 10 of the small plants stands in `cases`). Assumes nothing.
 use mathlib.Core.Path.{_≡_, refl}
 use mathlib.Core.List.{List, [], _∷_, _++_}
 use Prim.Native.Nat.{ℕ}
@@ -17,16 +17,7 @@ path-accepted : treeItem 3 (three 0 1 1 2) 2 1 ≡ 0
 unfolding treeItem firstOf sized marked labelsKnown endsLow acyclic closes component fewEdges degree every three
 path-accepted = refl
 
--- small plants, case 10
-cycle-refused : treeItem 3 (three 0 1 1 0) 2 1 ≡ 6
-unfolding treeItem firstOf sized marked labelsKnown endsLow acyclic closes component fewEdges degree every three
-cycle-refused = refl
-
-end-refused : treeItem 3 (three 0 1 0 3) 2 1 ≡ 5
-unfolding treeItem firstOf sized marked labelsKnown endsLow acyclic closes component fewEdges degree every three
-end-refused = refl
-
--- the same found; and a label that the table lacks
+-- a cycle in a found tree; and a label that the table lacks, whose number comes first
 found-cycle-refused : treeItem 8 (three 0 1 1 0) 2 1 ≡ 11
 unfolding treeItem firstOf sized marked labelsKnown endsLow acyclic closes component fewEdges degree every three
 found-cycle-refused = refl

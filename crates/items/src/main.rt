@@ -1,57 +1,21 @@
 //! Reads cases from standard input, one to a line: a name, a colon, `table` or `recorded`, and bytes in hexadecimal. Prints each name and the
 //! number of the item that turns the bytes down, 0 for none. A tree is read with K = 2 and L = 1, and as a found tree too.
+use case_lines::read_line;
 use formats::table::table_item;
 use formats::tree::found_item;
 use formats::tree::tree_item;
 use libc::STDOUT_FILENO;
+ghost use Prim.Native.Nat.{_<_, _≤_};
+ghost use lib.ListN.{length};
+ghost use Rattle.case_lines.specs.Line.{Onward};
 
-// Where the reading stands: in a name (0), in the word that says what the bytes are (1), in the bytes (2); that word's first letter;
-// the first digit of a byte, or 16 for none; how many bytes there are.
-struct Place {
-    part: u8,
-    kind: u8,
-    half: u8,
-    len: usize,
-}
-
-// The value of a digit, 16 where it is none.
-fn digit(c: u8) -> u8 {
-    if (b'0' <= c) & (c <= b'9') {
-        return c % 16;
-    }
-    if (b'A' <= c) & (c <= b'F') {
-        return c % 16 + 9;
-    }
-    16
-}
-
-// One digit more; a byte past the end of the buffer is dropped.
-fn with_digit(p: Place, x: u8, bytes: &mut [u8]) -> Place {
-    let len = p.len;
-    if p.half == 16 {
-        return Place {
-            part: 2,
-            kind: p.kind,
-            half: x,
-            len,
-        };
-    }
-    if len < bytes.len() {
-        bytes[len] = p.half % 16 * 16 + x % 16;
-        return Place {
-            part: 2,
-            kind: p.kind,
-            half: 16,
-            len: len + 1,
-        };
-    }
-    p
-}
-
-// What the readers say of the bytes.
-fn print_item(kind: u8, bytes: &[u8]) {
+// What the readers say of the first `len` bytes.
+fn print_item(word: u8, buffer: &[u8], len: usize)
+    requires { ⌜ len ≤ length (now buffer) ⌝ }
+{
+    let bytes = &buffer[0..len];
     io::write_all(STDOUT_FILENO, b": ");
-    if kind == b't' {
+    if word == b't' {
         io::print_decimal(STDOUT_FILENO, table_item(bytes) as u64);
     } else {
         io::print_decimal(STDOUT_FILENO, tree_item(bytes, 2, 1) as u64);
@@ -61,85 +25,22 @@ fn print_item(kind: u8, bytes: &[u8]) {
     io::write_all(STDOUT_FILENO, b"\n");
 }
 
-fn end_line(p: Place, bytes: &[u8]) -> Place {
-    let len = p.len;
-    if len <= bytes.len() {
-        print_item(p.kind, &bytes[..len]);
-    }
-    Place {
-        part: 0,
-        kind: 0,
-        half: 16,
-        len: 0,
-    }
-}
-
-fn in_name(p: Place, c: u8) -> Place {
-    if c == b':' {
-        return Place {
-            part: 1,
-            kind: 0,
-            half: 16,
-            len: 0,
-        };
-    }
-    let one = [c];
-    io::write_all(STDOUT_FILENO, &one);
-    p
-}
-
-fn in_word(p: Place, c: u8) -> Place {
-    if (p.kind == 0) & (c == b' ') {
-        return p;
-    }
-    if p.kind == 0 {
-        return Place {
-            part: 1,
-            kind: c,
-            half: 16,
-            len: 0,
-        };
-    }
-    if c == b' ' {
-        return Place {
-            part: 2,
-            kind: p.kind,
-            half: 16,
-            len: 0,
-        };
-    }
-    p
-}
-
-// One byte of the input more.
-fn step(p: Place, c: u8, bytes: &mut [u8]) -> Place {
-    if p.part == 0 {
-        return in_name(p, c);
-    }
-    if c == b'\n' {
-        return end_line(p, bytes);
-    }
-    if p.part == 1 {
-        return in_word(p, c);
-    }
-    let x = digit(c);
-    if x == 16 {
-        return p;
-    }
-    with_digit(p, x, bytes)
+// The case of the line that begins at `from`; answers where the next line begins.
+fn run_case(input: &[u8], from: usize, bytes: &mut [u8]) -> usize
+    requires { ⌜ from < length (now input) ⌝ }
+    ensures { λ r. ⌜ Onward from (length (now (input .entry))) r ⌝ }
+{
+    let line = read_line(input, from, bytes);
+    let name = line.name;
+    io::write_all(STDOUT_FILENO, &input[from..name]);
+    print_item(line.word, bytes, line.len);
+    line.next
 }
 
 fn run(input: &[u8], bytes: &mut [u8]) {
-    let mut p = Place {
-        part: 0,
-        kind: 0,
-        half: 16,
-        len: 0,
-    };
-    let mut i = 0;
-    while i < input.len() {
-        p = step(p, input[i], bytes);
-        i += 1;
+    let mut at = 0;
+    while at < input.len() {
+        at = run_case(input, at, bytes);
     }
 }
 

@@ -22,4 +22,3 @@ pub mod ValueRange
 pub mod Filling
 pub mod ReadPair
 pub mod Theorems
-pub mod Cases

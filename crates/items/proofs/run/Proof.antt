@@ -1,4 +1,4 @@
--- `run` reads each byte once. Assumes nothing.
+-- `run` goes on from line to line. Assumes nothing.
 use mathlib.Core.Path.{_≡_}
 use Prim.Native.Nat.{_-_, _≤_}
 use lib.ListN.{length}
@@ -7,22 +7,16 @@ use Rattle.items.proofs.run.Statement.{statement}
 use Rattle.items.proofs.run.Tie as tie
 
 abbrev Inv-loop : tie.InvT-loop
-Inv-loop input bytes₀ p₀ i₀ bytes p i = (i ≤ length input) × (length bytes ≡ length bytes₀)
+Inv-loop input bytes₀ at₀ bytes at = (at ≤ length input) × (length bytes ≡ length bytes₀)
 
 abbrev μ-loop : tie.MeasureT-loop
-μ-loop input bytes₀ p₀ i₀ bytes p i = length input - i
+μ-loop input bytes₀ at₀ bytes at = length input - at
 
 loop-holds : tie.Need-loop-holds Inv-loop μ-loop
 loop-holds c = search needs
 
-shared-slice-read-step : tie.Need-shared-slice-read-step Inv-loop μ-loop
-shared-slice-read-step c = search needs
-
-step-requires : tie.Need-step-requires Inv-loop μ-loop
-step-requires c κs = search needs
-
-add-i : tie.Need-add-i Inv-loop μ-loop
-add-i c = search needs
+run-case-requires : tie.Need-run-case-requires Inv-loop μ-loop
+run-case-requires c κs = search needs
 
 loop-less : tie.Need-loop-less Inv-loop μ-loop
 loop-less c = search needs
@@ -43,9 +37,7 @@ run-spec =
     Inv-loop
     μ-loop
     loop-holds
-    shared-slice-read-step
-    step-requires
-    add-i
+    run-case-requires
     loop-less
     loop-again
     same-length

@@ -73,7 +73,10 @@ fn with_digit(h: Hex, x: u8, bytes: &mut [u8]) -> Hex
         return Hex { len, high: x };
     }
     let next = put(bytes, len, byte_of(high, x));
-    Hex { len: next, high: 16 }
+    Hex {
+        len: next,
+        high: 16,
+    }
 }
 
 // The bytes of the pairs of digits from `from` up to `to`.

@@ -1,0 +1,2 @@
+-- What the match answers on the table of small plants.
+pub mod Answers

@@ -1,0 +1,6 @@
+-- Plants written as bytes, the table of small plants, and what else the definitions compute of such plants.
+pub mod Plants
+pub mod Expected
+pub mod SmallPlants
+pub mod FurtherPlants
+pub mod ValueCases
