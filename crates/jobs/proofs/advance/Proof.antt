@@ -53,7 +53,9 @@ use Rattle.model.proofs.AdvanceOutcome as O
 use Rattle.model.proofs.AdvanceOutcome.Laws as O′
 use Rattle.jobs.proofs.advance_core as core
 use Rattle.jobs.proofs.advance_core.Symbol as core-def
+use Rattle.jobs.proofs.advance_core.Symbol.{name as #jobs·advance-core}
 use Rattle.jobs.proofs.advance_core.Met as core-thm
+use Rattle.jobs.proofs.advance.Key.{name as #jobs·advance}
 use Rattle.jobs.proofs.advance as advance
 use Rattle.jobs.proofs.advance.Statement as stated
 use Rattle.jobs.proofs.advance.Code as code

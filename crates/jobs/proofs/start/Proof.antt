@@ -52,7 +52,9 @@ use Rattle.model.proofs.StartOutcome as O
 use Rattle.model.proofs.StartOutcome.Laws as O′
 use Rattle.jobs.proofs.start_core as core
 use Rattle.jobs.proofs.start_core.Symbol as core-def
+use Rattle.jobs.proofs.start_core.Symbol.{name as #jobs·start-core}
 use Rattle.jobs.proofs.start_core.Met as core-thm
+use Rattle.jobs.proofs.start.Key.{name as #jobs·start}
 use Rattle.jobs.proofs.start as start
 use Rattle.jobs.proofs.start.Statement as stated
 use Rattle.jobs.proofs.start.Code as code
