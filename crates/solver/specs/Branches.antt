@@ -14,15 +14,15 @@ use borrow.Author.Tests.{eq-eqb, ne-eqb, lt-ltb, le-ltb}
 use Rattle.foundations.specs.Tests.{same?, less?}
 use Rattle.foundations.specs.Sums.{sum, pick, lsum}
 use Rattle.foundations.specs.Members.{mem, mem-there, mem-nil, getD-mem, Distinct, del, mem-occ, place, place-low}
-use Rattle.model.specs.Limits.{noVertex}
+use Rattle.model.specs.Limits.{noVertex, forbidden}
 use Rattle.model.specs.Bytes.{int32At}
-use Rattle.model.specs.Weights.{Weight, none, some, weighed, plusW, isForbidden, weightOk}
+use Rattle.model.specs.Weights.{Weight, none, some, weighed, plusW, stored, isForbidden, weightOk}
 use Rattle.model.specs.Table.{vertexLabels, edgeLabels, edgeWeight, vertexWeight, vertexRow, column}
 use Rattle.model.specs.Tree.{count, vertexLabel}
 use Rattle.model.specs.Graph.{neighbours, edgeLabel, edges}
 use Rattle.model.specs.Order.{children, offset, slot, width, index, subproblems}
 use Rattle.model.specs.Pairs.{vertexPair, edgePair}
-use Rattle.model.specs.Values.{best, branch, recalled, Subproblem}
+use Rattle.model.specs.Values.{best, branch, recalled, solveAt, Subproblem}
 use Rattle.trees.specs.Accepted.{Passed, Sound, edge-known, vertex-known}
 use Rattle.trees.specs.Neighbours.{Adjacent, mem-adjacent, adjacent-mem, adjacent-back, few-neighbours, neighbour-at, label-at, once-neighbours, edge-joins}
 use Rattle.trees.specs.Rooted.{child-of, up-edge, once-children}
@@ -30,9 +30,10 @@ use Rattle.trees.specs.Positions.{index-low}
 use Rattle.formats.specs.Inputs.{Accepted, input-accepted}
 use Rattle.integers.specs.Results.{Gain}
 use Rattle.subtrees.specs.Matching.{Assign, assign-ext}
+use Rattle.subtrees.specs.Filling.{solve-forbidden, solve-stored}
 use Rattle.assignment.specs.Matching.{at, cell, gained, weight}
 use Rattle.assignment.specs.State.{Sized, Solved, Answer, Total, Partner}
-use Rattle.solver.specs.Plan.{Known, Lent}
+use Rattle.solver.specs.Plan.{Known, Sides, Lent}
 use Rattle.solver.specs.Choice.{mateIn, hasMate, ChoiceAt}
 use Rattle.solver.specs.PlanLaws.{Taken, KidsTo, KidsAre, kids-are, BehindTo, behind-is, taken-neighbours}
 use Rattle.solver.specs.Exact.{upW, branchGain, Gains, rowGain, columnOf, Chosen, chosen-assign, chosen-best, solved-best}
@@ -214,16 +215,20 @@ child-adjacent s K L p u c l m =
     let q = child-of s (p .ends) (p .tree) u c l m in
     adjacent-back s c u (subst (λ (y : ℕ). Adjacent s c y) (q .2) (up-edge s (p .ends) (p .tree) c (q .0) (q .1)))
 
+-- the children of u
+pub record KidsOf (r f : List ℕ) (u k : ℕ) (label base : List ℕ) : Type 0 where
+  pub vertex : List ℕ
+  pub kids : KidsAre r u (width f) k label base vertex
+
 -- the children and their neighbours' places, as the functions of `plan` find them
-pub record Prepared (f : List ℕ) (rnear rlabels fnear : List (List ℕ)) (starts place : List ℕ) (u v wide k l : ℕ) (label base vertex back : List ℕ) : Type 0 where
-  pub across : wide ≡ width f
-  pub kids : KidsTo (getD rnear u []) (getD rlabels u []) place (getD place u 0) wide 8 k label base vertex
+pub record Prepared (r f : List ℕ) (fnear : List (List ℕ)) (starts : List ℕ) (u v k l : ℕ) (label base back : List ℕ) : Type 0 where
+  pub kids : KidsOf r f u k label base
   pub taken : Taken (getD fnear v []) l
   pub behind : BehindTo fnear starts v 8 back
 
-module _ (table r f : List ℕ) (numbers : List ℤ) (rnear rlabels fnear flabels : List (List ℕ)) (place starts : List ℕ) (N : Known table r f numbers rnear rlabels fnear flabels place starts)
+module _ (table r f : List ℕ) (numbers : List ℤ) (fnear flabels : List (List ℕ)) (starts : List ℕ) (N : Sides table r f numbers fnear flabels starts)
     (work : List ℤ) (E : Lent r f work) (u v s : ℕ) (Q : Subproblem r f u v s)
-    (wide k l : ℕ) (label base vertex back : List ℕ) (P : Prepared f rnear rlabels fnear starts place u v wide k l label base vertex back) where
+    (k l : ℕ) (label base back : List ℕ) (P : Prepared r f fnear starts u v k l label base back) where
   accepted : Accepted table r f
   accepted = input-accepted table r f (N .passes)
 
@@ -233,10 +238,10 @@ module _ (table r f : List ℕ) (numbers : List ℤ) (rnear rlabels fnear flabel
   pf : Passed f (vertexLabels table) (edgeLabels table)
   pf = accepted .found
 
-  pub prepared-kids : KidsAre r u (width f) k label base vertex
-  prepared-kids = kids-are r _ _ pr place (N .placed) u (width f) k label base vertex (Q .u-low) (rw (N .near, N .edges, N .placed u (Q .u-low), P .across) at (P .kids))
+  prepared-kids : KidsAre r u (width f) k label base (P .kids .vertex)
+  prepared-kids = P .kids .kids
 
-  pub prepared-columns : l ≡ length (neighbours f v)
+  prepared-columns : l ≡ length (neighbours f v)
   prepared-columns = taken-neighbours f _ _ pf v l (Q .v-low) (rw (N .found .neighbours) at (P .taken))
 
   columns-few : l ≤ 8
@@ -325,6 +330,22 @@ weighed-number w e = rw e
 pub weighed-none : (w : ℤ) → isForbidden w ≡ true → weighed w ≡ none
 unfolding weighed
 weighed-none w e = rw e
+
+-- ---- the number that is stored
+
+-- whatever the arrays stand for
+pub record NumberIs (k l : ℕ) (weights work : List ℤ) (label base names labels back : List ℕ) (s : ℕ) (w x : ℤ) : Type 0 where
+  pub is : (table r f : List ℕ) (u v : ℕ) → vertexPair table r f u v ≡ weighed w → Stands k l weights work label base names labels back (branch table r f (recalled r f work) u v) (children r u) (neighbours f v) → x ≡ solveAt table r f work u v s
+
+module _ (k l : ℕ) (weights work : List ℤ) (label base names labels back : List ℕ) (s : ℕ) (w : ℤ) where
+  pub number-none : isForbidden w ≡ true → NumberIs k l weights work label base names labels back s w forbidden
+  number-none h = record { is = λ table r f u v e S. sym (solve-forbidden table r f work u v s (e ∙ weighed-none w h)) }
+
+  pub number-leaf : (x : ℤ) → isForbidden w ≡ false → k ≡ 0 → x ≡ stored w 0 → NumberIs k l weights work label base names labels back s w x
+  number-leaf x h z d = record { is = λ table r f u v e S. d ∙ sym (solve-stored table r f work u v s w 0 (e ∙ weighed-number w h) (best-none _ _ _ (S .rows ∙ z))) }
+
+  pub number-heaviest : (x : ℤ) (total : ℕ) → isForbidden w ≡ false → Heaviest k l weights work label base names labels back s total → x ≡ stored w total → NumberIs k l weights work label base names labels back s w x
+  number-heaviest x total h H d = record { is = λ table r f u v e S. d ∙ sym (solve-stored table r f work u v s w total (e ∙ weighed-number w h) (H .is _ _ _ S)) }
 
 -- ---- the choice that a matching makes
 
@@ -467,5 +488,16 @@ module _ {table r f : List ℕ} {numbers : List ℤ} {rnear rlabels fnear flabel
       let y = Q .v-low in
       (omega arith, omega arith)
 
-  pub known-kids : {u v s wide k : ℕ} {label base vertex : List ℕ} → Subproblem r f u v s → KidsTo (getD rnear u []) (getD rlabels u []) place (getD place u 0) wide 8 k label base vertex → KidsAre r u wide k label base vertex
-  known-kids {u} {v} {s} {wide} {k} {label} {base} {vertex} Q h = kids-are r _ _ (known-accepted .recorded) place (N .placed) u wide k label base vertex (Q .u-low) (rw (N .near, N .edges, N .placed u (Q .u-low)) at h)
+  pub known-kids : {u wide k : ℕ} {label base vertex : List ℕ} → u < count r → wide ≡ width f → KidsTo (getD rnear u []) (getD rlabels u []) place (getD place u 0) wide 8 k label base vertex → KidsOf r f u k label base
+  known-kids {u} {wide} {k} {label} {base} {vertex} lu e h = record {
+    vertex = vertex;
+    kids = kids-are r _ _ (known-accepted .recorded) place (N .placed) u (width f) k label base vertex lu (rw (N .near, N .edges, N .placed u lu, e) at h);
+  }
+
+-- and of one pair
+module _ {table r f : List ℕ} {numbers : List ℤ} {fnear flabels : List (List ℕ)} {starts : List ℕ} (N : Sides table r f numbers fnear flabels starts) where
+  pub sides-accepted : Accepted table r f
+  sides-accepted = input-accepted table r f (N .passes)
+
+  pub sides-few : (count r ≤ 64) × (count f ≤ 64)
+  sides-few = (sides-accepted .recorded .ends .few, sides-accepted .found .ends .few)

@@ -51,3 +51,15 @@ pub record Known (table r f : List ℕ) (numbers : List ℤ) (rnear rlabels fnea
 
 pub ready-known : {table r f : List ℕ} {numbers : List ℤ} {rnear rlabels fnear flabels : List (List ℕ)} {order place starts : List ℕ} → Ready table r f numbers rnear rlabels fnear flabels order place starts → Known table r f numbers rnear rlabels fnear flabels place starts
 ready-known k = record { passes = k .passes; weights = k .weights; near = k .recorded .neighbours; edges = k .recorded .edges; placed = k .recorded .placed; found = k .found }
+
+-- what a pair of vertices needs: nothing of the recorded tree's arrays
+pub record Sides (table r f : List ℕ) (numbers : List ℤ) (fnear flabels : List (List ℕ)) (starts : List ℕ) : Type 0 where
+  pub passes : inputItem table r f ≡ 0
+  pub weights : EdgeWeights table numbers
+  pub found : Found f fnear flabels starts
+
+pub known-sides : {table r f : List ℕ} {numbers : List ℤ} {rnear rlabels fnear flabels : List (List ℕ)} {place starts : List ℕ} → Known table r f numbers rnear rlabels fnear flabels place starts → Sides table r f numbers fnear flabels starts
+known-sides k = record { passes = k .passes; weights = k .weights; found = k .found }
+
+pub ready-sides : {table r f : List ℕ} {numbers : List ℤ} {rnear rlabels fnear flabels : List (List ℕ)} {order place starts : List ℕ} → Ready table r f numbers rnear rlabels fnear flabels order place starts → Sides table r f numbers fnear flabels starts
+ready-sides k = known-sides (ready-known k)

@@ -170,12 +170,13 @@ pub fn behind(near: &[[u8; 8]; 64], starts: &[usize; 65], v: u8) -> [usize; 8]
     r
 }
 
-// The last of the first m vertices whose subproblems begin at `rest` or before.
-pub fn locate(starts: &[usize; 65], m: usize, rest: usize) -> u8
-    requires { ⌜ (1 ≤ m) × (m ≤ 64) ⌝ }
+// The last of the first m vertices whose subproblems begin at `rest` or before; those of `first` do.
+pub fn locate(starts: &[usize; 65], m: usize, rest: usize, first: u8) -> u8
+    requires { ⌜ (first < m) × (m ≤ 64) ⌝ }
+    requires { ⌜ (0 < first → getD (now starts) first 0 ≤ rest) ⌝ }
     ensures { λ r. ⌜ Located (now (starts .entry)) m rest r ⌝ }
 {
-    let mut v: u8 = 0;
+    let mut v = first;
     while (v as usize) + 1 < m {
         if rest < starts[(v as usize) + 1] {
             return v;

@@ -5,11 +5,13 @@ use formats::tree::vertex_count;
 use formats::tree::vertex_label;
 ghost use Prim.Native.Nat.{_+_, _*_, _<_, _≤_};
 ghost use mathlib.Core.Path.{_≡_};
+ghost use mathlib.Core.Bool.{true};
 ghost use lib.ListN.{length};
-ghost use Rattle.solver.specs.Branches.{GainIs, PairGain, gainAt, gainsOf, RowReadable, RowFilled, Readable, Filled, Heaviest, Mates, nameOr, PairWeight};
+ghost use Rattle.solver.specs.Branches.{GainIs, PairGain, gainAt, gainsOf, RowReadable, RowFilled, Readable, Filled, Heaviest, Mates, nameOr, PairWeight, NumberIs};
 ghost use Rattle.solver.specs.Choice.{ChoiceAt};
 ghost use Rattle.solver.specs.Plan.{Known, Lent};
 ghost use Rattle.model.specs.Tree.{count};
+ghost use Rattle.model.specs.Weights.{weightOk};
 ghost use Rattle.model.specs.Order.{width};
 ghost use Rattle.model.specs.Values.{Subproblem, solveAt};
 ghost use Rattle.trees.specs.Accepted.{Sound};
@@ -222,6 +224,34 @@ pub fn width_of(found: &[u8]) -> usize
     3 * vertex_count(found) - 2
 }
 
+// The number that is stored for a pair of weight w, k children, l neighbours and s.
+pub fn number_of(
+    weights: &[i32; 64],
+    work: &[i32],
+    label: &[u8; 8],
+    base: &[usize; 8],
+    k: usize,
+    names: &[u8; 8],
+    labels: &[u8; 8],
+    back: &[usize; 8],
+    l: usize,
+    s: u8,
+    w: i32,
+) -> i32
+    requires { ⌜ Readable k l (length (now work)) (now label) (now base) (now labels) (now back) ⌝ }
+    requires { ⌜ weightOk w ≡ true ⌝ }
+    ensures { λ r. ⌜ NumberIs k l (now (weights .entry)) (now (work .entry)) (now (label .entry)) (now (base .entry)) (now (names .entry)) (now (labels .entry)) (now (back .entry)) s w r ⌝ }
+{
+    if integers::is_forbidden(w) {
+        return model::Limits::FORBIDDEN;
+    }
+    if k == 0 {
+        return integers::stored_value(w, 0);
+    }
+    let total = heaviest(weights, work, label, base, k, names, labels, back, l, s);
+    integers::stored_value(w, total)
+}
+
 // The number of subproblem (u, v, s) from the work numbers of u's children.
 pub fn solve_at(
     table: &[u8],
@@ -245,15 +275,9 @@ pub fn solve_at(
     ensures { λ r. ⌜ r ≡ solveAt (now (table .entry)) (now (recorded .entry)) (now (found .entry)) (now (work .entry)) u v s ⌝ }
 {
     let w = pair_weight(table, recorded, found, u, v);
-    if integers::is_forbidden(w) {
-        return model::Limits::FORBIDDEN;
-    }
     let a = wide(u);
     let kids = crate::plan::kids(rnear[a], rlabels[a], place, place[a], width_of(found));
     let k = kids.count;
-    if k == 0 {
-        return integers::stored_value(w, 0);
-    }
     let label = kids.label;
     let base = kids.base;
     let b = wide(v);
@@ -261,7 +285,7 @@ pub fn solve_at(
     let labels = flabels[b];
     let l = crate::plan::taken(names);
     let back = crate::plan::behind(fnear, starts, v);
-    let total = heaviest(
+    number_of(
         weights,
         work,
         &label,
@@ -272,8 +296,8 @@ pub fn solve_at(
         &back,
         l,
         s,
-    );
-    integers::stored_value(w, total)
+        w,
+    )
 }
 
 // For each child of u in its place a found vertex that it is paired with below (u, v, s), or 255.

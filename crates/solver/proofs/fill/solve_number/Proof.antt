@@ -2,7 +2,7 @@
 use mathlib.Core.Path.{_∙_}
 use Rattle.solver.specs.FillLaws.{number-low, number-u, number-v, number-s, number-sub, rest-in}
 use Rattle.solver.specs.Branches.{known-sound}
-use Rattle.solver.specs.Plan.{ready-known}
+use Rattle.solver.specs.Plan.{ready-known, ready-sides}
 use Rattle.model.specs.Values.{solve}
 use Rattle.foundations.specs.Machine.{Same, back}
 use native.Mathlib.Omega.{arith}
@@ -21,7 +21,7 @@ div-u c = search needs
 element-copy-out-u : tie.Need-element-copy-out-u
 element-copy-out-u c =
     let at-start = c .before .before .before .before in
-    let p = at-start .pre in rw (c .width-of .ensures .0) (number-low (p .0) _ (p .1 .1) .1)
+    let p = at-start .pre in rw (c .width-of .ensures .0) (number-low (ready-sides (p .0)) _ (p .1 .1) .1)
 
 rem-rest : tie.Need-rem-rest
 rem-rest c = search needs
@@ -36,7 +36,7 @@ locate-requires : tie.Need-locate-requires
 locate-requires c κs =
     let at-start = c .before .before .before .before .before .before in
     let e = known-sound (ready-known (at-start .pre .0)) .passed .ends in
-    rw (c .vertex-count .ensures) (e .some, e .few)
+    (rw (c .vertex-count .ensures) (e .some, e .few), λ h. absurd (omega arith))
 
 cast-choice-in : tie.Need-cast-choice-in
 cast-choice-in c = search needs
@@ -50,7 +50,7 @@ element-copy-out-choice-in c =
     let at-start = at-width-of .before .before .before .before in
     let p = at-start .pre in
     let e = known-sound (ready-known (p .0)) .passed .ends .few in
-    omega (arith, rest-in (p .0) _ _ _ (c .before .vertex-count .ensures) (rw (at-width-of .width-of .ensures .0) at (c .locate .ensures)) .0)
+    omega (arith, rest-in (ready-sides (p .0)) _ _ _ (c .before .vertex-count .ensures) (rw (at-width-of .width-of .ensures .0) at (c .locate .ensures)) .0)
 
 cast-choice-in-2 : tie.Need-cast-choice-in-2
 cast-choice-in-2 c = search needs
@@ -65,7 +65,7 @@ element-copy-out-choice-in-2 c =
     let at-start = at-width-of .before .before .before .before in
     let p = at-start .pre in
     let e = known-sound (ready-known (p .0)) .passed .ends .few in
-    omega (arith, rest-in (p .0) _ _ _ (at-vertex-count .vertex-count .ensures) (rw (at-width-of .width-of .ensures .0) at (c .before .locate .ensures)) .0)
+    omega (arith, rest-in (ready-sides (p .0)) _ _ _ (at-vertex-count .vertex-count .ensures) (rw (at-width-of .width-of .ensures .0) at (c .before .locate .ensures)) .0)
 
 sub-choice-in : tie.Need-sub-choice-in
 sub-choice-in c =
@@ -74,7 +74,7 @@ sub-choice-in c =
     let at-width-of = at-vertex-count .before .before in
     let at-start = at-width-of .before .before .before .before in
     let p = at-start .pre in
-    let a = rest-in (p .0) _ _ _ (at-vertex-count .vertex-count .ensures) (rw (at-width-of .width-of .ensures .0) at (at-locate .locate .ensures)) in
+    let a = rest-in (ready-sides (p .0)) _ _ _ (at-vertex-count .vertex-count .ensures) (rw (at-width-of .width-of .ensures .0) at (at-locate .locate .ensures)) in
     rw (at-width-of .width-of .ensures .0) (omega (arith, a .1, a .2))
 
 choice-in-requires : tie.Need-choice-in-requires
@@ -84,7 +84,7 @@ choice-in-requires c κs =
     let at-width-of = at-vertex-count .before .before in
     let at-start = at-width-of .before .before .before .before in
     let p = at-start .pre in
-    let a = rest-in (p .0) _ _ _ (at-vertex-count .vertex-count .ensures) (rw (at-width-of .width-of .ensures .0) at (at-locate .locate .ensures)) in
+    let a = rest-in (ready-sides (p .0)) _ _ _ (at-vertex-count .vertex-count .ensures) (rw (at-width-of .width-of .ensures .0) at (at-locate .locate .ensures)) in
     rw (at-width-of .width-of .ensures .0) (omega (arith, a .1, a .3, a .4))
 
 solve-at-requires : tie.Need-solve-at-requires
@@ -95,9 +95,9 @@ solve-at-requires c κs =
     let at-start = at-width-of .before .before .before .before in
     let p = at-start .pre in
     let u = number-u (p .0) _ (p .1 .1) in
-    let v = number-v (p .0) _ _ _ (at-vertex-count .vertex-count .ensures) (rw (at-width-of .width-of .ensures .0) at (at-locate .locate .ensures)) in
-    let s = c .choice-in .ensures ∙ number-s (p .0) _ _ _ _ (at-vertex-count .vertex-count .ensures) (rw (at-width-of .width-of .ensures .0) at (at-locate .locate .ensures)) (rw (at-width-of .width-of .ensures .0)) in
-    (ready-known (p .0), (p .1 .0, rw (at-width-of .width-of .ensures .0, u, v, s) (number-sub (p .0) _ (p .1 .1))))
+    let v = number-v (ready-sides (p .0)) _ _ _ (at-vertex-count .vertex-count .ensures) (rw (at-width-of .width-of .ensures .0) at (at-locate .locate .ensures)) in
+    let s = c .choice-in .ensures ∙ number-s (ready-sides (p .0)) _ _ _ _ (at-vertex-count .vertex-count .ensures) (rw (at-width-of .width-of .ensures .0) at (at-locate .locate .ensures)) (rw (at-width-of .width-of .ensures .0)) in
+    (ready-known (p .0), (p .1 .0, rw (at-width-of .width-of .ensures .0, u, v, s) (number-sub (ready-sides (p .0)) _ (p .1 .1))))
 
 returns : tie.Need-returns
 unfolding solve
@@ -109,8 +109,8 @@ returns c =
     let p = at-start .pre in
     let d : Same (c .solve-at .result) = back (c .solve-at .ok) in
     let u = number-u (p .0) _ (p .1 .1) in
-    let v = number-v (p .0) _ _ _ (at-vertex-count .vertex-count .ensures) (rw (at-width-of .width-of .ensures .0) at (at-locate .locate .ensures)) in
-    let s = c .before .choice-in .ensures ∙ number-s (p .0) _ _ _ _ (at-vertex-count .vertex-count .ensures) (rw (at-width-of .width-of .ensures .0) at (at-locate .locate .ensures)) (rw (at-width-of .width-of .ensures .0)) in
+    let v = number-v (ready-sides (p .0)) _ _ _ (at-vertex-count .vertex-count .ensures) (rw (at-width-of .width-of .ensures .0) at (at-locate .locate .ensures)) in
+    let s = c .before .choice-in .ensures ∙ number-s (ready-sides (p .0)) _ _ _ _ (at-vertex-count .vertex-count .ensures) (rw (at-width-of .width-of .ensures .0) at (at-locate .locate .ensures)) (rw (at-width-of .width-of .ensures .0)) in
     rw d (rw (at-width-of .width-of .ensures .0, u, v, s) at (c .solve-at .ensures))
 
 pub solve-number-spec : {M : Type 1} → statement M

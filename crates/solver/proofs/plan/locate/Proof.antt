@@ -6,10 +6,10 @@ use Rattle.solver.proofs.plan.locate.Statement.{statement}
 use Rattle.solver.proofs.plan.locate.Tie as tie
 
 abbrev Inv-loop : tie.InvT-loop
-Inv-loop starts m rest v₀ v = (v < m) × (0 < v → getD starts v 0 ≤ rest)
+Inv-loop starts m rest first v₀ v = (v < m) × (0 < v → getD starts v 0 ≤ rest)
 
 abbrev μ-loop : tie.MeasureT-loop
-μ-loop starts m rest v₀ v = m - v
+μ-loop starts m rest first v₀ v = m - v
 
 loop-holds : tie.Need-loop-holds Inv-loop μ-loop
 loop-holds c = search needs

@@ -1,5 +1,6 @@
 -- `choice` meets its contract. Assumes nothing.
-use Rattle.solver.specs.Branches.{known-sound, sub-low, prepared-readable, prepared-stands, choice-at}
+use Rattle.solver.specs.Branches.{known-sound, sub-low, prepared-readable, prepared-stands, choice-at, known-kids}
+use Rattle.solver.specs.Plan.{known-sides}
 use native.Mathlib.Omega.{arith}
 use borrow.Author.Needs.{needs}
 use Rattle.solver.proofs.subproblem.choice.Statement.{statement}
@@ -75,7 +76,7 @@ mates-requires c κs =
     let at-wide = at-width-of .before .before .before .before in
     let at-start = at-wide .before .before .before .before in
     let p = at-start .pre in
-    rw (at-wide2 .wide2 .ensures) (prepared-readable _ _ _ _ _ _ _ _ _ _ (p .0) _ (p .1 .0) _ _ _ (p .1 .1) _ _ _ _ _ _ _ (record { across = at-width-of .width-of .ensures .0; kids = rw (at-wide .wide .ensures) at (at-kids .kids .ensures); taken = rw (at-wide2 .wide2 .ensures) at (at-taken .taken .ensures); behind = at-behind .behind .ensures }))
+    rw (at-wide2 .wide2 .ensures) (prepared-readable _ _ _ _ _ _ _ (known-sides (p .0)) _ (p .1 .0) _ _ _ (p .1 .1) _ _ _ _ _ (record { kids = known-kids (p .0) (p .1 .1 .u-low) (at-width-of .width-of .ensures .0) (rw (at-wide .wide .ensures) at (at-kids .kids .ensures)); taken = rw (at-wide2 .wide2 .ensures) at (at-taken .taken .ensures); behind = at-behind .behind .ensures }))
 
 returns : tie.Need-returns
 returns c =
@@ -87,7 +88,7 @@ returns c =
     let at-wide = at-width-of .before .before .before .before in
     let at-start = at-wide .before .before .before .before in
     let p = at-start .pre in
-    choice-at _ _ _ _ _ _ _ _ ((rw (at-wide2 .wide2 .ensures) at (c .mates .ensures)) .is _ _ _ (prepared-stands _ _ _ _ _ _ _ _ _ _ (p .0) _ (p .1 .0) _ _ _ (p .1 .1) _ _ _ _ _ _ _ (record { across = at-width-of .width-of .ensures .0; kids = rw (at-wide .wide .ensures) at (at-kids .kids .ensures); taken = rw (at-wide2 .wide2 .ensures) at (at-taken .taken .ensures); behind = at-behind .behind .ensures })))
+    choice-at _ _ _ _ _ _ _ _ ((rw (at-wide2 .wide2 .ensures) at (c .mates .ensures)) .is _ _ _ (prepared-stands _ _ _ _ _ _ _ (known-sides (p .0)) _ (p .1 .0) _ _ _ (p .1 .1) _ _ _ _ _ (record { kids = known-kids (p .0) (p .1 .1 .u-low) (at-width-of .width-of .ensures .0) (rw (at-wide .wide .ensures) at (at-kids .kids .ensures)); taken = rw (at-wide2 .wide2 .ensures) at (at-taken .taken .ensures); behind = at-behind .behind .ensures })))
 
 pub choice-spec : {M : Type 1} → statement M
 choice-spec =
