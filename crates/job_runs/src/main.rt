@@ -42,9 +42,8 @@ use crate::show::print_text;
 use case_lines::read_line;
 use formats::bytes::byte_or_zero;
 use model::JobRecord;
-ghost use Prim.Native.Nat.{_<_, _≤_};
+ghost use Prim.Native.Nat.{_<_};
 ghost use lib.ListN.{length};
-ghost use Rattle.case_lines.specs.Line.{Onward};
 
 // What a step works on beside the buffers: how long the input is, how many work numbers and mapping bytes are lent, and the record.
 struct State {

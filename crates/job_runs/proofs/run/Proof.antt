@@ -3,13 +3,8 @@ use mathlib.Core.Path.{_≡_}
 use Prim.Native.Nat.{_-_, _≤_}
 use lib.ListN.{length}
 use borrow.Author.Needs.{needs}
-use native.Mathlib.Omega.{arith}
 use Rattle.job_runs.proofs.run.Statement.{statement}
 use Rattle.job_runs.proofs.run.Tie as tie
-use Rattle.case_lines.proofs.read_line.Reads as read-line-reads
-use Rattle.job_runs.proofs.show.print_text.Reads as print-text-reads
-use Rattle.job_runs.proofs.turn.Reads as turn-reads
-use Rattle.model.proofs.JobRecord.fresh.Reads as fresh-reads
 
 abbrev Inv-loop : tie.InvT-loop
 Inv-loop input bytes₀ plant₀ work₀ kept₀ mapping₀ st₀ at₀ bytes plant work kept mapping st at = (at ≤ length input) × (length bytes ≡ length bytes₀) × (length plant ≡ length plant₀) × (length work ≡ length work₀) × (length kept ≡ length kept₀) × (length mapping ≡ length mapping₀)

@@ -3,10 +3,8 @@ use mathlib.Core.Path.{_≡_}
 use Prim.Native.Nat.{_-_, _≤_}
 use lib.ListN.{length}
 use borrow.Author.Needs.{needs}
-use native.Mathlib.Omega.{arith}
 use Rattle.job_runs.proofs.calls.run_slices.Statement.{statement}
 use Rattle.job_runs.proofs.calls.run_slices.Tie as tie
-use Rattle.job_runs.proofs.calls.advance_twice.Reads as advance-twice-reads
 
 abbrev Inv-loop : tie.InvT-loop
 Inv-loop input budget work₀ j₀ advances₀ work j advances = (advances ≤ 12161) × (length work ≡ length work₀)

@@ -3,7 +3,6 @@ use mathlib.Core.Path.{_≡_}
 use Prim.Native.Nat.{_-_}
 use lib.ListN.{length}
 use borrow.Author.Needs.{needs}
-use native.Mathlib.Omega.{arith}
 use Rattle.job_runs.proofs.memory.clear_bytes.Statement.{statement}
 use Rattle.job_runs.proofs.memory.clear_bytes.Tie as tie
 

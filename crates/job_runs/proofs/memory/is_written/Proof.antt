@@ -2,7 +2,6 @@
 use Prim.Native.Nat.{_-_, _≤_}
 use lib.ListN.{length}
 use borrow.Author.Needs.{needs}
-use native.Mathlib.Omega.{arith}
 use Rattle.job_runs.proofs.memory.is_written.Statement.{statement}
 use Rattle.job_runs.proofs.memory.is_written.Tie as tie
 

@@ -1,12 +1,8 @@
 -- `print_numbers` keeps to the slice. Assumes nothing.
 use Prim.Native.Nat.{_-_, _≤_}
 use borrow.Author.Needs.{needs}
-use native.Mathlib.Omega.{arith}
 use Rattle.job_runs.proofs.show.print_numbers.Statement.{statement}
 use Rattle.job_runs.proofs.show.print_numbers.Tie as tie
-use Rattle.job_runs.proofs.memory.lesser.Reads as lesser-reads
-use Rattle.job_runs.proofs.show.print_signed.Reads as print-signed-reads
-use Rattle.job_runs.proofs.show.print_text.Reads as print-text-reads
 
 abbrev Inv-loop : tie.InvT-loop
 Inv-loop work n end i₀ t5 t6 i = i ≤ end
