@@ -134,6 +134,15 @@ unfolding sumℤ
 sumℤ-append n zero f = rw add-zero (sym (+ℤ-idr (sumℤ n f)))
 sumℤ-append n (suc m) f = rw (add-suc, sumℤ-append n m f) (+ℤ-assoc (sumℤ n f) (sumℤ m (λ i. f (n + i))) (f (n + m)))
 
+-- the first and the rest
+pub sumℤ-first : (n : ℕ) (f : ℕ → ℤ) → sumℤ (suc n) f ≡ f 0 +ℤ sumℤ n (λ i. f (suc i))
+unfolding sumℤ
+sumℤ-first zero f = +ℤ-idl (f 0) ∙ sym (+ℤ-idr (f 0))
+sumℤ-first (suc n) f = ap (λ (z : ℤ). z +ℤ f (suc n)) (sumℤ-first n f) ∙ +ℤ-assoc (f 0) (sumℤ n (λ i. f (suc i))) (f (suc n))
+
+pub sumℤ-nonneg : (n : ℕ) (f : ℕ → ℤ) → ((i : ℕ) → i < n → pos 0 ≤ℤ f i) → pos 0 ≤ℤ sumℤ n f
+sumℤ-nonneg n f h = rw (sumℤ-zero n) at (sumℤ-le n (λ i. pos 0) f h)
+
 pub pick-sumℤ : (b : Bool) (n : ℕ) (f : ℕ → ℤ) → pick b (sumℤ n f) ≡ sumℤ n (λ i. pick b (f i))
 pick-sumℤ true n f = refl
 pick-sumℤ false n f = sym (sumℤ-zero n)
