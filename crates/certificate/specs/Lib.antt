@@ -2,3 +2,4 @@
 pub mod Rules
 pub mod Items
 pub mod Sound
+pub mod Length

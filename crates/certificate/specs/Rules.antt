@@ -1,12 +1,12 @@
 -- What the tests of the certificate's rules say. Assumes nothing.
-use mathlib.Core.Path.{_≡_, refl, sym, ap, _∙_}
-use mathlib.Core.Bool.{Bool, true, false}
+use mathlib.Core.Path.{_≡_}
+use mathlib.Core.Bool.{true}
 use lib.IntN.{ℤ, negℤ, pos}
 use lib.Signed.{_≤ℤ_, leZ, leZ-yes}
 use Rattle.foundations.specs.Int.{ints, ≤ℤ-antisym}
 use Rattle.foundations.specs.Tests.{true→T, and-split, and-both}
 use Rattle.model.specs.Limits.{weightLimit}
-use Rattle.model.specs.Weights.{Weight, none, some, weighed}
+use Rattle.model.specs.Weights.{Weight, some, weighed}
 use Rattle.model.specs.Certificate.{eqZ, atMost}
 use Rattle.subtrees.specs.ValueRange.{not-forbidden}
 

@@ -19,8 +19,8 @@ use Rattle.model.specs.Limits.{weightLimit}
 use Rattle.model.specs.Mapping.{weight, Heaviest}
 use Rattle.model.specs.Order.{children, subproblems, index, uAt, vAt, sAt}
 use Rattle.model.specs.Pairs.{vertexPair}
-use Rattle.model.specs.Values.{branch, Subproblem}
-use Rattle.model.specs.Weights.{Weight, some, weighed}
+use Rattle.model.specs.Values.{branch}
+use Rattle.model.specs.Weights.{some, weighed}
 use Rattle.trees.specs.Neighbours.{once-neighbours}
 use Rattle.trees.specs.Positions.{Sub, index-once}
 use Rattle.trees.specs.Rooted.{once-children}
@@ -28,7 +28,6 @@ use Rattle.formats.specs.Inputs.{Accepted, input-accepted}
 use Rattle.subtrees.specs.Accepted.{recorded-tree, found-tree}
 use Rattle.subtrees.specs.Filling.{sub-here, index-low-at}
 use Rattle.subtrees.specs.Theorems.{quick-mapping, covered-heaviest}
-use Rattle.subtrees.specs.Trees.{IsTree}
 use Rattle.subtrees.specs.ValueRange.{vertex-range}
 use Rattle.certificate.specs.Items.{check-passed}
 use Rattle.certificate.specs.Rules.{eqZ-says, atMost-says, weighed-some}

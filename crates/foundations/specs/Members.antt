@@ -165,6 +165,23 @@ distinct-del v (x ∷ l) d = ⊎-elim
     (λ e. rw (e .1) (not-T→false _ (λ t. subst T (d .0) (del-mem x v l t .0)), distinct-del v l (d .1)))
     (same v x)
 
+-- what is no member leaves the list as it is; a member leaves it one shorter
+pub del-out : (v : ℕ) (l : List ℕ) → mem v l ≡ false → del v l ≡ l
+unfolding del
+del-out v [] h = refl
+del-out v (x ∷ l) h = ⊎-elim
+    (λ e. absurd (subst T h (rw (e .0) (mem-here x l))))
+    (λ e. rw (e .1) (ap (λ (m : List ℕ). x ∷ m) (del-out v l (not-T→false (mem v l) (λ t. subst T h (mem-there v x l t))))))
+    (same v x)
+
+pub length-del : (v : ℕ) (l : List ℕ) → Distinct l → T (mem v l) → length (del v l) + 1 ≡ length l
+unfolding del
+length-del v [] d t = absurd (mem-nil v t)
+length-del v (x ∷ l) d t = ⊎-elim
+    (λ e. rw (e .1) (rw (e .0, del-out x l (d .0)) (omega arith)))
+    (λ e. rw (e .1) (⊎-elim (λ q. absurd (e .0 q)) (λ q. let i = length-del v l (d .1) q in omega arith) (mem-cases v x l t)))
+    (same v x)
+
 -- ---- a list's sum as a sum over a range
 
 pub lsum-ext : (l : List ℕ) (f g : ℕ → ℤ) → ((x : ℕ) → T (mem x l) → f x ≡ g x) → lsum l f ≡ lsum l g
