@@ -1,6 +1,6 @@
 -- The certificate of optimality (the paper's sheet): where its bytes stand, its rules, and the items of its check. Its bounds are duals here.
 -- Paper 01, "The sheet" and items 20 to 24.
-use mathlib.Core.Bool.{Bool, true, _&&_, not, cond}
+use mathlib.Core.Bool.{Bool, true, _&&_, not}
 use mathlib.Core.List.{List, [], _∷_, _++_}
 use Prim.Native.Nat.{ℕ, zero, suc, _+_, _*_, _-_}
 use lib.ListN.{length, getD}
@@ -12,11 +12,11 @@ use Rattle.foundations.specs.Members.{del}
 use Rattle.foundations.specs.Sums.{sumℤ}
 use Rattle.model.specs.Bytes.{byteAt, isMark, int32At}
 use Rattle.model.specs.Refusals.{Item, item, firstOf}
-use Rattle.model.specs.Weights.{Weight, none, some, weighed, isForbidden, plusW}
+use Rattle.model.specs.Weights.{Weight, none, some, weighed, isForbidden}
 use Rattle.model.specs.Tree.{count}
 use Rattle.model.specs.Graph.{neighbours}
 use Rattle.model.specs.Order.{children, width, subproblems, index, uAt, vAt, sAt}
-use Rattle.model.specs.Pairs.{vertexPair, edgePair}
+use Rattle.model.specs.Pairs.{vertexPair}
 use Rattle.model.specs.Mapping.{weight, mappingOk}
 use Rattle.model.specs.Values.{branch, largest}
 use Rattle.model.specs.Calls.{inputItems}
