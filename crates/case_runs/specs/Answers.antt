@@ -12,12 +12,13 @@ use Rattle.model.specs.Match.{MatchCall}
 use Rattle.model.specs.Order.{subproblems}
 use Rattle.model.specs.Tree.{count}
 use Rattle.one_call.specs.Items.{match-input, match-none}
-use Rattle.cases.specs.Expected.{Expected, weighs, refused, Row, plant, Holds, Weighs}
+use Rattle.cases.specs.Expected.{Expected, weighs, refused, checked, Row, plant, Holds, Weighs}
 
--- the weight, or the item's number
+-- the weight, or the item's number; a certificate is not the match's matter
 abbrev pub Answers : Expected → MatchAnswer → Type 0
 Answers (weighs w p) a = a ≡ Found w
 Answers (refused k) a = k ≢ 0 → a ≡ Refused k
+Answers (checked z k) a = Unit {0}
 
 -- every match of the row's plant with enough work numbers and a mapping buffer that is long enough
 abbrev pub Answered : Row → Type 0
@@ -31,3 +32,4 @@ row-answered (plant k table r f (weighs w p)) h = λ work mapping work′ mappin
 row-answered (plant k table r f (refused i)) h = λ work mapping work′ mapping′ a enough room call n.
     let e : matchItem table r f work mapping ≡ i = match-input table r f work mapping (λ z. n (sym h ∙ z)) ∙ h in
     call .refused (λ z. n (sym e ∙ z)) .given ∙ ap Refused e
+row-answered (plant k table r f (checked z i)) h = λ work mapping work′ mapping′ a enough room call. tt

@@ -6,14 +6,17 @@ use mathlib.Core.List.{List, [], _∷_}
 use Prim.Native.Nat.{ℕ}
 use lib.IntN.{ℤ}
 use Rattle.model.specs.Calls.{inputItem}
+use Rattle.model.specs.Certificate.{checkOf}
 use Rattle.model.specs.Mapping.{Heaviest, weight, mappingOk}
 use Rattle.model.specs.Values.{answer}
 use Rattle.subtrees.specs.Theorems.{heaviest-exactly, quick-mapping}
 
--- a weight with a heaviest mapping, as n bytes; or the number of the item that turns the plant down
+-- a weight with a heaviest mapping, as n bytes; or the number of the item that turns the plant down; or a certificate and the number of the
+-- item that its check gives, 0 where it is accepted
 pub data Expected : Type 0 where
   weighs : ℤ → List ℕ → Expected
   refused : ℕ → Expected
+  checked : List ℕ → ℕ → Expected
 
 pub data Row : Type 0 where
   plant : ℕ → List ℕ → List ℕ → List ℕ → Expected → Row
@@ -28,6 +31,7 @@ pub record Weighs (table recorded found : List ℕ) (w : ℤ) (p : List ℕ) : T
 abbrev pub Holds : Row → Type 0
 Holds (plant k table recorded found (weighs w p)) = Weighs table recorded found w p
 Holds (plant k table recorded found (refused item)) = inputItem table recorded found ≡ item
+Holds (plant k table recorded found (checked certificate item)) = checkOf table recorded found certificate ≡ item
 
 -- every row of a table holds
 infixr 40 _then_

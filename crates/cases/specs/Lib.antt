@@ -4,3 +4,4 @@ pub mod Expected
 pub mod SmallPlants
 pub mod FurtherPlants
 pub mod ValueCases
+pub mod CertificateCases

@@ -66,3 +66,12 @@ table8 =
     tableOf
     ((pos 5 ∷ forbidden ∷ forbidden ∷ []) ∷ (forbidden ∷ pos 5 ∷ pos 4 ∷ []) ∷ (forbidden ∷ pos 4 ∷ pos 0 ∷ []) ∷ [])
     ((pos 0 ∷ []) ∷ [])
+
+-- ---- the certificate of case 1, by the low byte of its weight, its partner byte, and the low byte of its value
+
+unfoldable pub certificate1 : ℕ → ℕ → ℕ → List ℕ
+certificate1 weight partner value =
+    0xC1 ∷ 0x01 ∷ 0x01 ∷ 0x01 ∷ weight ∷ 0x00 ∷ 0x00 ∷ 0x00
+    ∷ 0xC1 ∷ 0x02 ∷ partner
+    ∷ 0xC1 ∷ 0x03 ∷ value ∷ 0x00 ∷ 0x00 ∷ 0x00
+    ∷ []

@@ -8,7 +8,7 @@ use native.Mathlib.Decide.{ℕ-discrete, decLt}
 use lib.Dec.{T, eqb}
 use borrow.Author.Tests.{eq-eqb, ne-eqb}
 use Rattle.foundations.specs.Tests.{T→true, not-T→false, somewhere}
-use Rattle.foundations.specs.Sums.{sum}
+use Rattle.foundations.specs.Sums.{sum, sum-zero}
 
 -- ---- counting
 
@@ -81,6 +81,12 @@ pub sum-count : (n : ℕ) (f : ℕ → ℕ) (p : ℕ → Bool) → sum n (λ i. 
 unfolding sum cnt
 sum-count zero f p = refl
 sum-count (suc n) f p = rw (sum-count n f p) (omega arith)
+
+-- counted by rows or by columns
+pub cnt-swap : (n m : ℕ) (p : ℕ → ℕ → Bool) → sum n (λ i. cnt (p i) m) ≡ sum m (λ j. cnt (λ i. p i j) n)
+unfolding cnt
+cnt-swap n zero p = unfold sum in sum-zero n (λ i. 0) (λ i l. refl)
+cnt-swap n (suc m) p = sum-count n (λ i. cnt (p i) m) (λ i. p i m) ∙ ap (λ (z : ℕ). z + cnt (λ i. p i m) n) (cnt-swap n m p) ∙ (unfold sum in refl)
 
 -- two different numbers
 pub cnt-pair : (a b n : ℕ) → a < n → b < n → a ≢ b → cnt (λ v. eqb a v || eqb b v) n ≡ 2

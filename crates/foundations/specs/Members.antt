@@ -14,7 +14,7 @@ use borrow.Author.Tests.{eq-eqb, ne-eqb}
 use Rattle.foundations.specs.Tests.{same, eqb-same, not-T→false, or-assoc}
 use lib.Signed.{_≤ℤ_, ≤ℤ-refl}
 use Rattle.foundations.specs.Int.{int, plus, +ℤ-mono}
-use Rattle.foundations.specs.Sums.{pick, sumℤ, sumℤ-ext, sumℤ-add, sumℤ-zero, sumℤ-one, lsum}
+use Rattle.foundations.specs.Sums.{pick, sumℤ, sumℤ-ext, sumℤ-add, sumℤ-zero, sumℤ-first, sumℤ-one, lsum}
 use Rattle.foundations.specs.Counting.{cnt, pigeon, Twice}
 use Rattle.foundations.specs.Lists.{below, cat, cat-append}
 
@@ -156,6 +156,31 @@ del-mem x v (y ∷ l) t = ⊎-elim
     (λ e. ⊎-elim (λ q. (rw q (mem-here y l), λ p. e .0 (sym (sym q ∙ p)))) (λ q. let r = del-mem x v l q in (mem-there x y l (r .0), r .1))
     (mem-cases x y (del v l) (rw (e .1) at t)))
     (same v y)
+
+pub distinct-del : (v : ℕ) (l : List ℕ) → Distinct l → Distinct (del v l)
+unfolding del
+distinct-del v [] d = tt
+distinct-del v (x ∷ l) d = ⊎-elim
+    (λ e. rw (e .1) (distinct-del v l (d .1)))
+    (λ e. rw (e .1) (not-T→false _ (λ t. subst T (d .0) (del-mem x v l t .0)), distinct-del v l (d .1)))
+    (same v x)
+
+-- what is no member leaves the list as it is; a member leaves it one shorter
+pub del-out : (v : ℕ) (l : List ℕ) → mem v l ≡ false → del v l ≡ l
+unfolding del
+del-out v [] h = refl
+del-out v (x ∷ l) h = ⊎-elim
+    (λ e. absurd (subst T h (rw (e .0) (mem-here x l))))
+    (λ e. rw (e .1) (ap (λ (m : List ℕ). x ∷ m) (del-out v l (not-T→false (mem v l) (λ t. subst T h (mem-there v x l t))))))
+    (same v x)
+
+pub length-del : (v : ℕ) (l : List ℕ) → Distinct l → T (mem v l) → length (del v l) + 1 ≡ length l
+unfolding del
+length-del v [] d t = absurd (mem-nil v t)
+length-del v (x ∷ l) d t = ⊎-elim
+    (λ e. rw (e .1) (rw (e .0, del-out x l (d .0)) (omega arith)))
+    (λ e. rw (e .1) (⊎-elim (λ q. absurd (e .0 q)) (λ q. let i = length-del v l (d .1) q in omega arith) (mem-cases v x l t)))
+    (same v x)
 
 -- ---- a list's sum as a sum over a range
 
@@ -305,6 +330,23 @@ place-one x (y ∷ l) (suc i) h b e = step (ℕ-discrete x y) (place-one x l i)
     step : Dec (x ≡ y) → (occ x l ≤ 1 → i < length l → getD l i 0 ≡ x → place x l ≡ i) → cond (eqb x y) 0 (suc (place x l)) ≡ suc i
     step (yes q) r = let g : 1 + occ x l ≤ 1 = rw (eq-eqb x y q) at h in let k : 1 ≤ occ x l = here l i (omega arith) e in absurd (omega arith)
     step (no q) r = let g : 0 + occ x l ≤ 1 = rw (ne-eqb x y q) at h in rw (ne-eqb x y q) (ap suc (r (omega arith) (omega arith) e))
+
+-- a sum over a list's members by their places
+place-here : (y : ℕ) (l : List ℕ) → place y (y ∷ l) ≡ 0
+unfolding place
+place-here y l = rw (eqb-same y)
+
+place-there : (x y : ℕ) (l : List ℕ) → x ≢ y → place x (y ∷ l) ≡ suc (place x l)
+unfolding place
+place-there x y l h = rw (ne-eqb x y h)
+
+pub lsum-place : (l : List ℕ) (f : ℕ → ℤ) → Distinct l → lsum l (λ x. f (place x l)) ≡ sumℤ (length l) f
+unfolding lsum
+lsum-place [] f d = unfold sumℤ in refl
+lsum-place (y ∷ l) f d =
+    ap (λ (i : ℕ). f i +ℤ lsum l (λ x. f (place x (y ∷ l)))) (place-here y l)
+    ∙ ap (λ (z : ℤ). f 0 +ℤ z) (lsum-ext l (λ x. f (place x (y ∷ l))) (λ x. f (suc (place x l))) (λ x t. ap f (place-there x y l (mem-ne x y l (d .0) t))) ∙ lsum-place l (λ i. f (suc i)) (d .1))
+    ∙ sym (sumℤ-first (length l) f)
 
 -- w stands in the list, before x.
 pub record Ahead (w x : ℕ) (l : List ℕ) : Type 0 where

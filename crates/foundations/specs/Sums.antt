@@ -6,7 +6,7 @@ use mathlib.Core.List.{List, [], _∷_, _++_}
 use Prim.Native.Nat.{ℕ, zero, suc, _+_, _*_, _≤_, _<_, zero-le}
 use native.Mathlib.Omega.{arith}
 use native.Mathlib.Numerals.{add-one}
-use native.Mathlib.Nat.{not-suc-le-zero, add-zero, add-suc}
+use native.Mathlib.Nat.{not-suc-le-zero, add-zero, add-suc, suc-mul}
 use lib.IntN.{ℤ, pos, _+ℤ_, +ℤ-idl, +ℤ-idr, +ℤ-assoc}
 use lib.Dec.{T, eqb}
 use borrow.Author.Tests.{eq-eqb}
@@ -54,6 +54,28 @@ pub sum-append : (n m : ℕ) (f : ℕ → ℕ) → sum (n + m) f ≡ sum n f + s
 unfolding sum
 sum-append n zero f = rw add-zero (omega arith)
 sum-append n (suc m) f = rw add-suc (omega (arith, sum-append n m f))
+
+-- the first and the rest
+pub sum-first : (n : ℕ) (f : ℕ → ℕ) → sum (suc n) f ≡ f 0 + sum n (λ i. f (suc i))
+unfolding sum
+sum-first zero f = omega arith
+sum-first (suc n) f = omega (arith, sum-first n f)
+
+pub sum-const : (n c : ℕ) → sum n (λ i. c) ≡ n * c
+unfolding sum
+sum-const zero c = omega arith
+sum-const (suc n) c = omega (arith, sum-const n c)
+
+pub sum-times : (n c : ℕ) (f : ℕ → ℕ) → sum n (λ i. c * f i) ≡ c * sum n f
+unfolding sum
+sum-times zero c f = omega arith
+sum-times (suc n) c f = omega (arith, sum-times n c f)
+
+-- n rows of w
+pub sum-rows : (n w : ℕ) (f : ℕ → ℕ) → sum (n * w) f ≡ sum n (λ i. sum w (λ j. f (i * w + j)))
+unfolding sum
+sum-rows zero w f = let e : 0 * w ≡ 0 = omega arith in rw e
+sum-rows (suc n) w f = rw (suc-mul n w) (sum-append (n * w) w f ∙ ap (λ (z : ℕ). z + sum w (λ j. f (n * w + j))) (sum-rows n w f))
 
 -- two functions that differ at c alone
 pub sum-point : (n : ℕ) (f g : ℕ → ℕ) (c : ℕ) → c < n → ((j : ℕ) → j < n → j ≢ c → f j ≡ g j) → sum n f + g c ≡ sum n g + f c
@@ -133,6 +155,15 @@ pub sumℤ-append : (n m : ℕ) (f : ℕ → ℤ) → sumℤ (n + m) f ≡ sum�
 unfolding sumℤ
 sumℤ-append n zero f = rw add-zero (sym (+ℤ-idr (sumℤ n f)))
 sumℤ-append n (suc m) f = rw (add-suc, sumℤ-append n m f) (+ℤ-assoc (sumℤ n f) (sumℤ m (λ i. f (n + i))) (f (n + m)))
+
+-- the first and the rest
+pub sumℤ-first : (n : ℕ) (f : ℕ → ℤ) → sumℤ (suc n) f ≡ f 0 +ℤ sumℤ n (λ i. f (suc i))
+unfolding sumℤ
+sumℤ-first zero f = +ℤ-idl (f 0) ∙ sym (+ℤ-idr (f 0))
+sumℤ-first (suc n) f = ap (λ (z : ℤ). z +ℤ f (suc n)) (sumℤ-first n f) ∙ +ℤ-assoc (f 0) (sumℤ n (λ i. f (suc i))) (f (suc n))
+
+pub sumℤ-nonneg : (n : ℕ) (f : ℕ → ℤ) → ((i : ℕ) → i < n → pos 0 ≤ℤ f i) → pos 0 ≤ℤ sumℤ n f
+sumℤ-nonneg n f h = rw (sumℤ-zero n) at (sumℤ-le n (λ i. pos 0) f h)
 
 pub pick-sumℤ : (b : Bool) (n : ℕ) (f : ℕ → ℤ) → pick b (sumℤ n f) ≡ sumℤ n (λ i. pick b (f i))
 pick-sumℤ true n f = refl

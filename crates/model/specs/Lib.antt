@@ -17,3 +17,4 @@ pub mod Readout
 pub mod Duals
 pub mod Match
 pub mod Jobs
+pub mod Certificate

@@ -112,7 +112,7 @@ module _ (s : List ℕ) (ends : Ends s (count s)) (loops : acyclic s (count s) �
   unfolding slot
   slot-is v x t = place-at x (choices s v) (mem-occ x (choices s v) t)
 
-  slot-of : (v i : ℕ) → v < count s → i < length (choices s v) → slot s v (getD (choices s v) i 0) ≡ i
+  pub slot-of : (v i : ℕ) → v < count s → i < length (choices s v) → slot s v (getD (choices s v) i 0) ≡ i
   unfolding slot
   slot-of v i l h = place-one (getD (choices s v) i 0) (choices s v) i (distinct-occ (getD (choices s v) i 0) (choices s v) (choices-once v l)) h refl
 
