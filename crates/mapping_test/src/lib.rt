@@ -1,0 +1,3 @@
+//! Item 21: whether n bytes are a mapping, tested without paths.
+pub mod near;
+pub mod vertices;
