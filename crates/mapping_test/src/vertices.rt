@@ -6,9 +6,17 @@ ghost use mathlib.Core.Path.{_≡_};
 ghost use Rattle.foundations.specs.Lists.{every};
 ghost use Rattle.model.specs.Tree.{count};
 ghost use Rattle.model.specs.Pairs.{vertexPair};
-ghost use Rattle.model.specs.Mapping.{mapped, allowed, vertexOk};
+ghost use Rattle.model.specs.Mapping.{partner, mapped, allowed, vertexOk};
 ghost use Rattle.formats.specs.Inputs.{Accepted};
 ghost use Rattle.mapping_test.specs.Tested.{isNew};
+
+// The partner of u, 255 for none.
+fn partner_of(mapping: &[u8; 64], u: u8) -> u8
+    requires { ⌜ u < 64 ⌝ }
+    ensures { λ r. ⌜ r ≡ partner (now (mapping .entry)) u ⌝ }
+{
+    mapping[u as usize]
+}
 
 // u has a partner.
 pub fn is_mapped(mapping: &[u8; 64], u: u8) -> bool
@@ -49,7 +57,7 @@ fn vertex_ok(table: &[u8], recorded: &[u8], found: &[u8], mapping: &[u8; 64], u:
     requires { ⌜ u < count (now recorded) ⌝ }
     ensures { λ r. ⌜ r ≡ vertexOk (now (table .entry)) (now (recorded .entry)) (now (found .entry)) (now (mapping .entry)) u ⌝ }
 {
-    let v = mapping[u as usize];
+    let v = partner_of(mapping, u);
     if v == 255 {
         return true;
     }
