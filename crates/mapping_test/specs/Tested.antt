@@ -5,12 +5,14 @@ use mathlib.Core.Bool.{Bool, true, false, not, _&&_, _||_, cond, true≢false}
 use mathlib.Core.List.{List, []}
 use Prim.Native.Nat.{ℕ, zero, suc, _+_, _*_, _≤_, _<_}
 use native.Mathlib.Omega.{arith}
+use native.Mathlib.Numerals.{add-one}
 use lib.ListN.{length, getD, take}
+use lib.Seq.{length-take-le, getD-take}
 use lib.Dec.{T, eqb, ltb, leb}
 use lib.IntN.{ℤ}
 use borrow.Author.Tests.{eq-eqb, ne-eqb, lt-ltb, le-ltb}
 use Rattle.foundations.specs.Lists.{every}
-use Rattle.foundations.specs.Counting.{cnt}
+use Rattle.foundations.specs.Counting.{cnt, cnt-ext}
 use Rattle.foundations.specs.Tests.{is-false, and-split, passed}
 use Rattle.model.specs.Limits.{noVertex}
 use Rattle.model.specs.Bytes.{int32At}
@@ -20,11 +22,12 @@ use Rattle.model.specs.Tree.{count}
 use Rattle.model.specs.Graph.{edges, joined, edgeLabel, neighbourTable, edgeLabelTable}
 use Rattle.model.specs.Order.{parent}
 use Rattle.model.specs.Pairs.{vertexPair, edgePair}
-use Rattle.model.specs.Mapping.{partner, mapped, allowed, parentMapped, vertexOk, edgeOk}
-use Rattle.trees.specs.Accepted.{Passed}
+use Rattle.model.specs.Mapping.{partner, mapped, allowed, parentMapped, vertexOk, edgeOk, isTop, mappingOk}
+use Rattle.trees.specs.Accepted.{Passed, Sound}
 use Rattle.trees.specs.Neighbours.{adjacent-low, adjacent-back, joined-says, says-joined}
 use Rattle.trees.specs.Rooted.{up-edge}
-use Rattle.formats.specs.Inputs.{Accepted}
+use Rattle.model.specs.Calls.{inputItem}
+use Rattle.formats.specs.Inputs.{Accepted, input-accepted}
 use Rattle.mapping_test.specs.Near.{Beside, Parents, labelOr, label-is, label-known, joined-low, up-low}
 
 -- ---- weights
@@ -142,3 +145,58 @@ module _ (table r f p : List ℕ) (u w : ℕ) (h a : Bool) (ew : w ≡ parent r 
   pub edge-named : not (h && (not (eqb u 0) && a)) ≡ false → partner p u ≢ noVertex
   unfolding mapped
   edge-named e z = true≢false (sym (both e .0) ∙ eh ∙ ap not (eq-eqb (partner p u) noVertex z))
+
+-- ---- tops
+
+pub top-is : (r p : List ℕ) (u w : ℕ) (h a : Bool) → w ≡ parent r u → h ≡ mapped p u → a ≡ mapped p w → (h && not (not (eqb u 0) && a)) ≡ isTop r p u
+unfolding isTop parentMapped
+top-is r p u w h a ew eh ea = rw (eh, ea, ew)
+
+pub cnt-step : (q : ℕ → Bool) (i k d : ℕ) (b : Bool) → k ≡ cnt q i → b ≡ q i → d ≡ k + cond b 1 0 → d ≡ cnt q (i + 1)
+unfolding cnt
+cnt-step q i k d b e g h = rw (add-one, cnt, h, e, g)
+
+-- ---- the whole: the tests see only the first n bytes
+
+every-ext : (p q : ℕ → Bool) (n : ℕ) → ((k : ℕ) → k < n → p k ≡ q k) → every p n ≡ every q n
+unfolding every
+every-ext p q zero h = refl
+every-ext p q (suc n) h = rw (every-ext p q n (λ k l. h k (omega arith)), h n (omega arith))
+
+module _ (table r f p q : List ℕ) (K L : ℕ) (P : Passed r K L) (same : (x : ℕ) → x < count r → partner p x ≡ partner q x) where
+  mapped-same : (u : ℕ) → u < count r → mapped p u ≡ mapped q u
+  unfolding mapped
+  mapped-same u l = rw (same u l)
+
+  vertex-same : (u : ℕ) → u < count r → vertexOk table r f p u ≡ vertexOk table r f q u
+  unfolding vertexOk
+  vertex-same u l = rw (mapped-same u l, same u l, every-ext (λ x. not (eqb (partner p x) (partner q u))) (λ x. not (eqb (partner q x) (partner q u))) u (λ x h. rw (same x (omega arith))))
+
+  edge-same : (u : ℕ) → u < count r → edgeOk table r f p u (parent r u) ≡ edgeOk table r f q u (parent r u)
+  unfolding edgeOk parentMapped
+  edge-same u l = let m = up-low r K L P u l in rw (mapped-same u l, same u l, mapped-same (parent r u) m, same (parent r u) m)
+
+  top-same : (u : ℕ) → u < count r → isTop r p u ≡ isTop r q u
+  unfolding isTop parentMapped
+  top-same u l = rw (mapped-same u l, mapped-same (parent r u) (up-low r K L P u l))
+
+pub tested : (table r f m : List ℕ) → Accepted table r f → count r ≤ length m → (v e : Bool) (k : ℕ) → v ≡ every (vertexOk table r f m) (count r) → e ≡ every (λ u. edgeOk table r f m u (parent r u)) (count r) → k ≡ cnt (isTop r m) (count r) → (v && (e && leb k 1)) ≡ mappingOk table r f (take (count r) m)
+unfolding mappingOk
+tested table r f m A l v e k ev ee ek =
+    let same : (x : ℕ) → x < count r → partner (take (count r) m) x ≡ partner m x = λ x h. getD-take (count r) m x 0 h in
+    rw (
+      eq-eqb (length (take (count r) m)) (count r) (length-take-le (count r) m l),
+      every-ext (vertexOk table r f (take (count r) m)) (vertexOk table r f m) (count r) (vertex-same table r f (take (count r) m) m _ _ (A .recorded) same),
+      every-ext (λ u. edgeOk table r f (take (count r) m) u (parent r u)) (λ u. edgeOk table r f m u (parent r u)) (count r) (edge-same table r f (take (count r) m) m _ _ (A .recorded) same),
+      cnt-ext (isTop r (take (count r) m)) (isTop r m) (count r) (top-same table r f (take (count r) m) m _ _ (A .recorded) same),
+      ev,
+      ee,
+      ek
+    )
+
+-- what the tests ask
+pub drawn : (table r f : List ℕ) (rnear rlabels fnear flabels : List (List ℕ)) → inputItem table r f ≡ 0 → (rnear ≡ neighbourTable r) × (rlabels ≡ edgeLabelTable r) → (fnear ≡ neighbourTable f) × (flabels ≡ edgeLabelTable f) → Drawn table r f rnear rlabels fnear flabels
+drawn table r f rnear rlabels fnear flabels h a b = record { accepted = input-accepted table r f h; near = a .0; labels = a .1; found-near = b .0; found-labels = b .1 }
+
+pub sound : {table r f : List ℕ} → Accepted table r f → Sound r
+sound {table} A = record { K = vertexLabels table; L = edgeLabels table; passed = A .recorded }
