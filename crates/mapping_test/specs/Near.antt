@@ -9,14 +9,14 @@ use native.Mathlib.Nat.{not-suc-le-zero}
 use lib.ListN.{length, getD, set, length-set}
 use lib.Seq.{getD-set-same, getD-set-other}
 use lib.Dec.{T, ltb}
-use borrow.Author.Tests.{lt-ltb, le-ltb, ltb-true}
+use borrow.Author.Tests.{lt-ltb, ltb-true}
 use Rattle.foundations.specs.Tests.{same?, less?, and-split}
 use Rattle.foundations.specs.Members.{mem, place, mem-occ, place-at, place-low, getD-mem}
 use Rattle.model.specs.Limits.{noVertex, degreeLimit}
 use Rattle.model.specs.Tree.{count}
 use Rattle.model.specs.Graph.{edges, joined, neighbours, edgeLabel, edgeOf, neighbourTable, edgeLabelTable}
 use Rattle.model.specs.Order.{parent, position}
-use Rattle.trees.specs.Accepted.{Passed, Sound, edge-known}
+use Rattle.trees.specs.Accepted.{Passed, edge-known}
 use Rattle.trees.specs.Neighbours.{Adjacent, joined-says, says-joined, adjacent-low, mem-adjacent, adjacent-mem, few-neighbours, neighbour-at, free-at, label-at, edge-joins}
 use Rattle.trees.specs.Rooted.{up-edge, parent-low, root-parent, one-above}
 use Rattle.trees.specs.Positions.{position-kid}

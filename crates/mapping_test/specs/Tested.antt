@@ -1,14 +1,14 @@
 -- The tests of a mapping as code does them, against the model's `mappingOk`. Assumes nothing.
 use mathlib.Core.Path.{_≡_, refl, sym, ap, _∙_, subst}
-use mathlib.Core.Logic.{⊎-elim, _≢_}
-use mathlib.Core.Bool.{Bool, true, false, not, _&&_, _||_, cond, true≢false}
+use mathlib.Core.Logic.{_≢_}
+use mathlib.Core.Bool.{Bool, true, false, not, _&&_, cond, true≢false}
 use mathlib.Core.List.{List, []}
-use Prim.Native.Nat.{ℕ, zero, suc, _+_, _*_, _≤_, _<_}
+use Prim.Native.Nat.{ℕ, zero, suc, _+_, _≤_, _<_}
 use native.Mathlib.Omega.{arith}
 use native.Mathlib.Numerals.{add-one}
 use lib.ListN.{length, getD, take}
 use lib.Seq.{length-take-le, getD-take}
-use lib.Dec.{T, eqb, ltb, leb}
+use lib.Dec.{eqb, leb}
 use lib.IntN.{ℤ}
 use borrow.Author.Tests.{eq-eqb, ne-eqb, lt-ltb, le-ltb}
 use Rattle.foundations.specs.Lists.{every}
@@ -28,7 +28,7 @@ use Rattle.trees.specs.Neighbours.{adjacent-low, adjacent-back, joined-says, sa
 use Rattle.trees.specs.Rooted.{up-edge}
 use Rattle.model.specs.Calls.{inputItem}
 use Rattle.formats.specs.Inputs.{Accepted, input-accepted}
-use Rattle.mapping_test.specs.Near.{Beside, Parents, labelOr, label-is, label-known, joined-low, up-low}
+use Rattle.mapping_test.specs.Near.{Beside, labelOr, label-is, label-known, joined-low, up-low}
 
 -- ---- weights
 
@@ -191,7 +191,7 @@ tested table r f m A l v e k ev ee ek =
       cnt-ext (isTop r (take (count r) m)) (isTop r m) (count r) (top-same table r f (take (count r) m) m _ _ (A .recorded) same),
       ev,
       ee,
-      ek
+      ek,
     )
 
 -- what the tests ask

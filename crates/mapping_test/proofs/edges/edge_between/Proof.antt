@@ -1,8 +1,6 @@
 -- `edge_between` meets its contract. Assumes nothing.
-use Prim.Native.Nat.{ℕ, _<_}
+use Prim.Native.Nat.{_<_}
 use native.Mathlib.Omega.{arith}
-use borrow.Author.Needs.{needs}
-use Rattle.model.specs.Table.{edgeLabels}
 use Rattle.model.specs.Tree.{count}
 use Rattle.mapping_test.specs.Near.{joined-low}
 use Rattle.mapping_test.specs.Tested.{between-out, between-none, between-some, labels-known}

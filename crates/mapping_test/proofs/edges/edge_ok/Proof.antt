@@ -3,8 +3,6 @@ use Prim.Native.Nat.{ℕ, _<_}
 use mathlib.Core.Path.{_≡_}
 use native.Mathlib.Omega.{arith}
 use lib.ListN.{getD}
-use borrow.Author.Needs.{needs}
-use Rattle.model.specs.Tree.{count}
 use Rattle.model.specs.Order.{parent}
 use Rattle.mapping_test.specs.Near.{up-low}
 use Rattle.mapping_test.specs.Tested.{edge-off, edge-on, edge-up, edge-named}
@@ -53,11 +51,13 @@ edge-between-requires : tie.Need-edge-between-requires
 edge-between-requires c κs =
     let e = c .before .before in
     let b = e .before in
-    let s = b .before .before .before .before .before .before in
-    (s .pre .0, (
-      edge-up (s .args .table .now) _ (s .args .found .now) _ (s .args .u) (w s) (b .before .is-mapped .result) (b .is-mapped2 .result) (is s) (b .before .is-mapped .ensures) (b .is-mapped2 .ensures) (s .pre .0 .accepted .recorded) (s .pre .1 .1) (e .if1 .left),
-      edge-named (s .args .table .now) _ (s .args .found .now) _ (s .args .u) (w s) (b .before .is-mapped .result) (b .is-mapped2 .result) (is s) (b .before .is-mapped .ensures) (b .is-mapped2 .ensures) (e .if1 .left),
-    ))
+    let s = b .before .before .before .before .before .before in (
+      s .pre .0,
+      (
+        edge-up (s .args .table .now) _ (s .args .found .now) _ (s .args .u) (w s) (b .before .is-mapped .result) (b .is-mapped2 .result) (is s) (b .before .is-mapped .ensures) (b .is-mapped2 .ensures) (s .pre .0 .accepted .recorded) (s .pre .1 .1) (e .if1 .left),
+        edge-named (s .args .table .now) _ (s .args .found .now) _ (s .args .u) (w s) (b .before .is-mapped .result) (b .is-mapped2 .result) (is s) (b .before .is-mapped .ensures) (b .is-mapped2 .ensures) (e .if1 .left),
+      ),
+    )
 
 returns-2 : tie.Need-returns-2
 returns-2 c =

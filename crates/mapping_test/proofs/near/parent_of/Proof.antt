@@ -1,10 +1,6 @@
 -- `parent_of` meets its contract. Assumes nothing.
-use Prim.Native.Nat.{ℕ, _<_}
-use mathlib.Core.Path.{_∙_}
-use mathlib.Core.List.{[]}
+use Prim.Native.Nat.{_<_}
 use native.Mathlib.Omega.{arith}
-use lib.ListN.{getD}
-use Rattle.model.specs.Tree.{count}
 use Rattle.mapping_test.specs.Near.{later-is, root-is}
 use Rattle.mapping_test.proofs.near.parent_of.Statement.{statement}
 use Rattle.mapping_test.proofs.near.parent_of.Tie as tie

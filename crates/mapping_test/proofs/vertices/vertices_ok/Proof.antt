@@ -1,6 +1,6 @@
 -- `vertices_ok` meets its contract: the test is gathered over the recorded vertices. Assumes nothing.
 use Prim.Native.Nat.{_-_, _≤_}
-use mathlib.Core.Path.{_≡_, refl, sym}
+use mathlib.Core.Path.{_≡_, refl}
 use native.Mathlib.Omega.{arith}
 use borrow.Author.Needs.{needs}
 use Rattle.foundations.specs.Lists.{every, every-step, every-end}
