@@ -1,0 +1,3 @@
+-- Laws of the test of a mapping.
+pub mod Near
+pub mod Tested
