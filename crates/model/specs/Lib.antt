@@ -18,3 +18,4 @@ pub mod Duals
 pub mod Match
 pub mod Jobs
 pub mod Certificate
+pub mod Writing

@@ -27,6 +27,7 @@ impl Limits {
 
 // A job's state, which belongs to the caller (the paper's job record). n and m are the vertices of the recorded and the found tree, position the
 // number of its subproblems solved so far, total that of the subproblems solved in all its jobs.
+#[repr(C)]
 pub struct JobRecord {
     pub idle: bool,
     pub n: u32,
@@ -79,5 +80,11 @@ pub struct AdvanceOutcome {
 // The answer of a match: the weight of the mapping, or the number of the item that turned the call down.
 pub enum MatchAnswer {
     Found(i32),
+    Refused(u8),
+}
+
+// The answer of writing a certificate: its length in bytes, or the number of the item that turned the call down.
+pub enum WriteAnswer {
+    Written(u32),
     Refused(u8),
 }

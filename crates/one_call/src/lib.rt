@@ -43,7 +43,7 @@ pub fn match_item(table: &[u8], recorded: &[u8], found: &[u8], work: &[i32], map
 }
 
 // Solves every subproblem and reads a heaviest mapping out; the answer is its weight.
-fn solve_and_read(
+pub fn solve_and_read(
     table: &[u8],
     recorded: &[u8],
     found: &[u8],

@@ -18,7 +18,7 @@ ghost use Rattle.solver.specs.Branches.{KidsOf};
 ghost use Rattle.solver.specs.FillLaws.{choiceIn, RowRun, PairRun};
 
 // The q-th choice of s for v: v itself, then its neighbours.
-fn choice_in(row: [u8; 8], v: u8, q: usize) -> u8
+pub fn choice_in(row: [u8; 8], v: u8, q: usize) -> u8
     requires { ⌜ q ≤ 8 ⌝ }
     ensures { λ r. ⌜ r ≡ choiceIn row v q ⌝ }
 {

@@ -127,7 +127,7 @@ pub fn kids(near: [u8; 8], labels: [u8; 8], place: &[u8; 64], own: u8, width: us
 }
 
 // The first place of v in a row, or 8.
-fn find(row: [u8; 8], v: u8) -> usize
+pub fn find(row: [u8; 8], v: u8) -> usize
     ensures { λ r. ⌜ At row v r ⌝ }
 {
     let mut i: usize = 0;

@@ -24,7 +24,7 @@ fn wide(x: u8) -> usize
 }
 
 // What an edge weight and a work number gain. Nothing is added to the forbidden number.
-fn gain_of(edge: i32, value: i32) -> u64
+pub fn gain_of(edge: i32, value: i32) -> u64
     ensures { λ r. ⌜ GainIs edge value r ⌝ }
 {
     if integers::is_forbidden(edge) {
@@ -81,7 +81,7 @@ fn gain_row(
 }
 
 // The gains of all children, row by row.
-fn gains(
+pub fn gains(
     g: &mut [u64; 64],
     weights: &[i32; 64],
     work: &[i32],

@@ -1,0 +1,2 @@
+-- Duals of subproblems, and what a written certificate holds.
+pub mod Left

@@ -1,0 +1,1 @@
+//! The duals of one subproblem (the paper's bounds), as the writer of a certificate needs them.

@@ -1,0 +1,1 @@
+//! Where a certificate's records stand.
