@@ -1,6 +1,6 @@
-//! The match in one call as one would write it in Rust for speed: it reads and tests the bytes, solves the n(3m - 2) subproblems in the
-//! order of paper 01, and reads a mapping out. Weights and neighbours stand in fixed arrays that are built once; the gains of a pair of
-//! vertices are built once for all choices of s. The matching is the textbook Hungarian method (row by row, potentials, slack array).
+//! The match in one call, and the job in slices, as one would write them in Rust for speed: each call reads and tests the bytes, solves its
+//! subproblems in the order of paper 01, and reads a mapping out. Weights and neighbours stand in fixed arrays that are built once; the gains
+//! of a pair of vertices are built once for all choices of s. The matching is the textbook Hungarian method (row by row, potentials, slack array).
 
 pub const FORBIDDEN: i32 = i32::MIN;
 pub const NONE: u8 = 255;
@@ -154,10 +154,10 @@ fn postorder(t: &Tree) -> ([u8; 64], [u8; 64]) {
     }
 }
 
-/// The textbook method on gains of 0 or more, rows * columns with rows <= columns: the greatest weight, and the row of each column
-/// (counted from 1, 0 for none) at places 1 and up.
+/// The textbook method on gains of 0 or more, rows * columns with rows <= columns: the greatest weight, the row of each column (counted from
+/// 1, 0 for none) at places 1 and up, and the potentials of rows and columns, whose opposites add up to at least each gain.
 #[inline]
-fn hungarian(gain: &[[i64; 8]; 8], rows: usize, columns: usize) -> (i64, [u8; 9]) {
+fn hungarian(gain: &[[i64; 8]; 8], rows: usize, columns: usize) -> (i64, [u8; 9], [i64; 16], [i64; 9]) {
     let (mut u, mut v) = ([0i64; 16], [0i64; 9]);
     let (mut row_of, mut way) = ([0u8; 9], [0u8; 9]);
     let columns = columns.min(8);
@@ -205,145 +205,27 @@ fn hungarian(gain: &[[i64; 8]; 8], rows: usize, columns: usize) -> (i64, [u8; 9]
             }
         }
     }
-    (v[0], row_of)
+    (v[0], row_of, u, v)
 }
 
 /// All that a call knows before it solves.
-struct Plan {
-    t: Table,
-    r: Tree,
-    f: Tree,
-    place: [usize; 64],
-    parent: [u8; 64],
-    width: usize,
-    starts: [usize; 64],
-    back: [[usize; 8]; 64],
+pub struct Plan {
+    pub t: Table,
+    pub r: Tree,
+    pub f: Tree,
+    pub order: [u8; 64],
+    pub place: [usize; 64],
+    pub parent: [u8; 64],
+    pub width: usize,
+    pub starts: [usize; 64],
+    pub back: [[usize; 8]; 64],
 }
 
-/// The gains of u's children with all of v's neighbours.
-#[inline]
-fn gains(p: &Plan, work: &[i32], kids: &[(usize, usize)], v: usize, g: &mut [[i64; 8]; 8]) {
-    let d = p.f.degree[v];
-    for (i, &(kind, base)) in kids.iter().enumerate() {
-        let edges = &p.t.edge[kind];
-        let values = &work[base..base + p.width];
-        for j in 0..d {
-            let (e, x) = (edges[p.f.edge[v][j] as usize & 7], values[p.back[v][j]]);
-            g[i][j] = if e == FORBIDDEN || x == FORBIDDEN { 0 } else { (e + x).max(0) as i64 };
-        }
-    }
-}
-
-/// The heaviest matching of k children with the d neighbours but the one in column `out`; and, if asked for, each child's column, 8 for
-/// none. One row or one column needs no matching.
-#[inline]
-fn matching(g: &[[i64; 8]; 8], k: usize, d: usize, out: usize, columns_of: Option<&mut [u8; 8]>) -> i64 {
-    let l = if out < d { d - 1 } else { d };
-    if columns_of.is_none() && (k == 1 || l <= 1) {
-        let mut best = 0;
-        for i in 0..k {
-            for j in 0..d {
-                if j != out {
-                    best = best.max(g[i][j]);
-                }
-            }
-        }
-        return best;
-    }
-    let mut h = [[0i64; 8]; 8];
-    let turned = l < k;
-    for i in 0..k {
-        for j in 0..l {
-            let x = g[i][if j < out { j } else { j + 1 }];
-            if turned {
-                h[j][i] = x;
-            } else {
-                h[i][j] = x;
-            }
-        }
-    }
-    let (rows, columns) = if turned { (l, k) } else { (k, l) };
-    let (total, row_of) = hungarian(&h, rows, columns);
-    if let Some(c) = columns_of {
-        *c = [8; 8];
-        for j in 1..=columns {
-            if row_of[j] != 0 {
-                let (a, b) = if turned { (j - 1, row_of[j] as usize - 1) } else { (row_of[j] as usize - 1, j - 1) };
-                let b = if b < out { b } else { b + 1 };
-                if g[a][b] > 0 {
-                    c[a] = b as u8;
-                }
-            }
-        }
-    }
-    total
-}
-
-/// The children of u: edge label, where their values begin, and the vertex.
-#[inline]
-fn children(p: &Plan, u: usize) -> ([(usize, usize); 8], [u8; 8], usize) {
-    let (mut kids, mut names, mut k) = ([(0, 0); 8], [0; 8], 0);
-    for i in 0..p.r.degree[u] {
-        let c = p.r.near[u][i];
-        if c != p.parent[u] {
-            kids[k] = (p.r.edge[u][i] as usize, p.place[c as usize] * p.width);
-            names[k] = c;
-            k += 1;
-        }
-    }
-    (kids, names, k)
-}
-
-fn fill(p: &Plan, order: &[u8; 64], work: &mut [i32]) {
-    let mut g = [[0i64; 8]; 8];
-    for (i, &u) in order[..p.r.n].iter().enumerate() {
-        let (kids, _, k) = children(p, u as usize);
-        let weights = &p.t.vertex[p.r.label[u as usize] as usize];
-        let (before, now) = work.split_at_mut(i * p.width);
-        for v in 0..p.f.n {
-            let d = p.f.degree[v];
-            let out = &mut now[p.starts[v]..p.starts[v] + d + 1];
-            let w = weights[p.f.label[v] as usize];
-            if w == FORBIDDEN || k == 0 {
-                out.fill(w);
-                continue;
-            }
-            gains(p, before, &kids[..k], v, &mut g);
-            out[0] = w + matching(&g, k, d, 8, None) as i32;
-            for s in 0..d {
-                out[s + 1] = w + matching(&g, k, d, s, None) as i32;
-            }
-        }
-    }
-}
-
-fn read_out(p: &Plan, work: &[i32], u: usize, v: usize, s: u8, mapping: &mut [u8]) {
-    mapping[u] = v as u8;
-    let (kids, names, k) = children(p, u);
-    let (mut g, mut columns) = ([[0; 8]; 8], [8; 8]);
-    gains(p, work, &kids[..k], v, &mut g);
-    let d = p.f.degree[v];
-    let out = p.f.near[v][..d].iter().position(|&x| x == s).unwrap_or(8);
-    matching(&g, k, d, out, Some(&mut columns));
-    for i in 0..k {
-        if columns[i] < 8 {
-            read_out(p, work, names[i] as usize, p.f.near[v][columns[i] as usize] as usize, v as u8, mapping);
-        }
-    }
-}
-
-/// The weight of a heaviest mapping, with all values in `work` and the mapping in `mapping`; or the item that applies.
-pub fn match_trees(table: &[u8], recorded: &[u8], found: &[u8], work: &mut [i32], mapping: &mut [u8]) -> Result<i32, u32> {
+/// The items 1 to 12 tested, and all that is read before solving.
+pub fn plan(table: &[u8], recorded: &[u8], found: &[u8]) -> Result<Plan, u32> {
     let t = read_table(table)?;
     let r = read_tree(recorded, &t, 3)?;
     let f = read_tree(found, &t, 8)?;
-    let width = 3 * f.n - 2;
-    if work.len() < r.n * width {
-        return Err(13);
-    }
-    if mapping.len() < r.n {
-        return Err(18);
-    }
     let (order, parent) = postorder(&r);
     let (mut place, mut starts, mut back) = ([0; 64], [0; 64], [[0; 8]; 64]);
     for i in 0..r.n {
@@ -358,12 +240,171 @@ pub fn match_trees(table: &[u8], recorded: &[u8], found: &[u8], work: &mut [i32]
             back[v][j] = starts[x] + 1 + f.near[x].iter().position(|&y| y as usize == v).unwrap();
         }
     }
-    let p = Plan { t, r, f, place, parent, width, starts, back };
-    fill(&p, &order, work);
+    let width = 3 * f.n - 2;
+    Ok(Plan { t, r, f, order, place, parent, width, starts, back })
+}
+
+/// The gains of u's children with all of v's neighbours.
+#[inline]
+pub fn gains(p: &Plan, work: &[i32], kids: &[(usize, usize)], v: usize, g: &mut [[i64; 8]; 8]) {
+    let d = p.f.degree[v];
+    for (i, &(kind, base)) in kids.iter().enumerate() {
+        let edges = &p.t.edge[kind];
+        let values = &work[base..base + p.width];
+        for j in 0..d {
+            let (e, x) = (edges[p.f.edge[v][j] as usize & 7], values[p.back[v][j]]);
+            g[i][j] = if e == FORBIDDEN || x == FORBIDDEN { 0 } else { (e + x).max(0) as i64 };
+        }
+    }
+}
+
+/// The gains without column `out`, turned over if there are more rows than columns; and whether they were.
+#[inline]
+fn squeezed(g: &[[i64; 8]; 8], k: usize, d: usize, out: usize) -> ([[i64; 8]; 8], usize, bool) {
+    let l = if out < d { d - 1 } else { d };
+    let mut h = [[0i64; 8]; 8];
+    let turned = l < k;
+    for i in 0..k {
+        for j in 0..l {
+            let x = g[i][if j < out { j } else { j + 1 }];
+            if turned {
+                h[j][i] = x;
+            } else {
+                h[i][j] = x;
+            }
+        }
+    }
+    (h, l, turned)
+}
+
+/// The weight of the heaviest matching of k children with the d neighbours but the one in column `out`. One row or one column needs no
+/// matching.
+#[inline]
+fn matching(g: &[[i64; 8]; 8], k: usize, d: usize, out: usize) -> i64 {
+    let l = if out < d { d - 1 } else { d };
+    if k == 1 || l <= 1 {
+        let mut best = 0;
+        for i in 0..k {
+            for j in 0..d {
+                if j != out {
+                    best = best.max(g[i][j]);
+                }
+            }
+        }
+        return best;
+    }
+    let (h, l, turned) = squeezed(g, k, d, out);
+    hungarian(&h, k.min(l), if turned { k } else { l }).0
+}
+
+/// Each child's column in a heaviest matching, 8 for none.
+#[inline]
+fn columns_of(g: &[[i64; 8]; 8], k: usize, d: usize, out: usize) -> [u8; 8] {
+    let (h, l, turned) = squeezed(g, k, d, out);
+    let columns = if turned { k } else { l };
+    let (_, row_of, _, _) = hungarian(&h, k.min(l), columns);
+    let mut c = [8; 8];
+    for j in 1..=columns {
+        if row_of[j] != 0 {
+            let (a, b) = if turned { (j - 1, row_of[j] as usize - 1) } else { (row_of[j] as usize - 1, j - 1) };
+            let b = if b < out { b } else { b + 1 };
+            if g[a][b] > 0 {
+                c[a] = b as u8;
+            }
+        }
+    }
+    c
+}
+
+/// Duals of 0 or more: of the k children, and of the neighbours but the one in column `out`. Where all columns are matched, a row's may
+/// come out negative; then as much is given to the rows and taken from the columns.
+pub fn duals(g: &[[i64; 8]; 8], k: usize, d: usize, out: usize) -> ([i64; 8], [i64; 8]) {
+    let (h, l, turned) = squeezed(g, k, d, out);
+    let (rows, columns) = if turned { (l, k) } else { (k, l) };
+    let (_, _, u, v) = hungarian(&h, rows, columns);
+    let lift = u[1..=rows].iter().copied().max().unwrap_or(0).max(0);
+    let (mut y, mut z) = ([0; 8], [0; 8]);
+    for i in 0..rows {
+        y[i] = lift - u[i + 1];
+    }
+    for j in 0..columns {
+        z[j] = -v[j + 1] - lift;
+    }
+    if turned { (z, y) } else { (y, z) }
+}
+
+/// The children of u: edge label, where their values begin, and the vertex.
+#[inline]
+pub fn children(p: &Plan, u: usize) -> ([(usize, usize); 8], [u8; 8], usize) {
+    let (mut kids, mut names, mut k) = ([(0, 0); 8], [0; 8], 0);
+    for i in 0..p.r.degree[u] {
+        let c = p.r.near[u][i];
+        if c != p.parent[u] {
+            kids[k] = (p.r.edge[u][i] as usize, p.place[c as usize] * p.width);
+            names[k] = c;
+            k += 1;
+        }
+    }
+    (kids, names, k)
+}
+
+/// The subproblems from, from + 1, .. below `to`, each from the work numbers before it.
+pub fn fill(p: &Plan, work: &mut [i32], from: usize, to: usize) {
+    let mut g = [[0i64; 8]; 8];
+    let mut at = from;
+    while at < to {
+        let (i, rest) = (at / p.width, at % p.width);
+        let u = p.order[i] as usize;
+        let (kids, _, k) = children(p, u);
+        let weights = &p.t.vertex[p.r.label[u] as usize];
+        let (before, now) = work.split_at_mut(i * p.width);
+        let end = (to - i * p.width).min(p.width);
+        let mut v = p.starts[..p.f.n].iter().rposition(|&s| s <= rest).unwrap();
+        let mut q = rest - p.starts[v];
+        while p.starts[v] + q < end {
+            let d = p.f.degree[v];
+            let (first, last) = (p.starts[v] + q, (p.starts[v] + d + 1).min(end));
+            let out = &mut now[first..last];
+            let w = weights[p.f.label[v] as usize];
+            if w == FORBIDDEN || k == 0 {
+                out.fill(w);
+            } else {
+                gains(p, before, &kids[..k], v, &mut g);
+                for (o, x) in out.iter_mut().enumerate() {
+                    *x = w + matching(&g, k, d, if q + o == 0 { 8 } else { q + o - 1 }) as i32;
+                }
+            }
+            v += 1;
+            q = 0;
+            if v == p.f.n {
+                break;
+            }
+        }
+        at = i * p.width + end;
+    }
+}
+
+fn read_out(p: &Plan, work: &[i32], u: usize, v: usize, s: u8, mapping: &mut [u8]) {
+    mapping[u] = v as u8;
+    let (kids, names, k) = children(p, u);
+    let mut g = [[0; 8]; 8];
+    gains(p, work, &kids[..k], v, &mut g);
+    let d = p.f.degree[v];
+    let out = p.f.near[v][..d].iter().position(|&x| x == s).unwrap_or(8);
+    let columns = columns_of(&g, k, d, out);
+    for i in 0..k {
+        if columns[i] < 8 {
+            read_out(p, work, names[i] as usize, p.f.near[v][columns[i] as usize] as usize, v as u8, mapping);
+        }
+    }
+}
+
+/// The largest value with s = v, at least 0, and a heaviest mapping read out.
+pub fn deliver(p: &Plan, work: &[i32], mapping: &mut [u8]) -> i32 {
     let (mut best, mut top) = (0, None);
     for u in 0..p.r.n {
         for v in 0..p.f.n {
-            let x = work[p.place[u] * width + p.starts[v]];
+            let x = work[p.place[u] * p.width + p.starts[v]];
             if x > best {
                 best = x;
                 top = Some((u, v));
@@ -372,7 +413,90 @@ pub fn match_trees(table: &[u8], recorded: &[u8], found: &[u8], work: &mut [i32]
     }
     mapping[..p.r.n].fill(NONE);
     if let Some((u, v)) = top {
-        read_out(&p, work, u, v, NONE, mapping);
+        read_out(p, work, u, v, NONE, mapping);
     }
-    Ok(best)
+    best
+}
+
+/// The weight of a heaviest mapping, with all values in `work` and the mapping in `mapping`; or the item that applies.
+#[inline(never)]
+pub fn match_trees(table: &[u8], recorded: &[u8], found: &[u8], work: &mut [i32], mapping: &mut [u8]) -> Result<i32, u32> {
+    let p = plan(table, recorded, found)?;
+    let all = p.r.n * p.width;
+    if work.len() < all {
+        return Err(13);
+    }
+    if mapping.len() < p.r.n {
+        return Err(18);
+    }
+    fill(&p, work, 0, all);
+    Ok(deliver(&p, work, mapping))
+}
+
+/// A job's state.
+pub struct Job {
+    pub n: usize,
+    pub m: usize,
+    pub position: usize,
+}
+
+#[inline(never)]
+pub fn start(table: &[u8], recorded: &[u8], found: &[u8], work: &[i32]) -> Result<Job, u32> {
+    let p = plan(table, recorded, found)?;
+    if work.len() < p.r.n * p.width {
+        return Err(13);
+    }
+    Ok(Job { n: p.r.n, m: p.f.n, position: 0 })
+}
+
+/// Items 1 to 16 of a job that is not idle.
+fn resume(job: &Job, table: &[u8], recorded: &[u8], found: &[u8], work: &[i32]) -> Result<Plan, u32> {
+    let p = plan(table, recorded, found)?;
+    if work.len() < p.r.n * p.width {
+        return Err(13);
+    }
+    if job.n < 1 || job.n > 64 || job.m < 1 || job.m > 64 || job.position > job.n * (3 * job.m - 2) {
+        return Err(14);
+    }
+    if job.n != p.r.n || job.m != p.f.n {
+        return Err(15);
+    }
+    let mut k = 0;
+    'all: for &u in &p.order[..p.r.n] {
+        for v in 0..p.f.n {
+            let allowed = p.t.vertex[p.r.label[u as usize] as usize][p.f.label[v] as usize] != FORBIDDEN;
+            for _ in 0..=p.f.degree[v] {
+                if k == job.position {
+                    break 'all;
+                }
+                let x = work[k];
+                if if allowed { x < -1_000_000 || x > 127_000_000 } else { x != FORBIDDEN } {
+                    return Err(16);
+                }
+                k += 1;
+            }
+        }
+    }
+    Ok(p)
+}
+
+#[inline(never)]
+pub fn advance(job: &mut Job, table: &[u8], recorded: &[u8], found: &[u8], budget: usize, work: &mut [i32]) -> Result<usize, u32> {
+    let p = resume(job, table, recorded, found, work)?;
+    let count = budget.min(p.r.n * p.width - job.position);
+    fill(&p, work, job.position, job.position + count);
+    job.position += count;
+    Ok(count)
+}
+
+#[inline(never)]
+pub fn finish(job: &Job, table: &[u8], recorded: &[u8], found: &[u8], work: &[i32], mapping: &mut [u8]) -> Result<i32, u32> {
+    let p = resume(job, table, recorded, found, work)?;
+    if job.position < p.r.n * p.width {
+        return Err(17);
+    }
+    if mapping.len() < p.r.n {
+        return Err(18);
+    }
+    Ok(deliver(&p, work, mapping))
 }

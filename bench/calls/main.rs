@@ -1,0 +1,145 @@
+//! Compares the proved calls with plain ones in Rust (plain.rs, certificate.rs) on the same plants, in one run: the match in one call, a job in
+//! slices of 256 with its start and finish, writing a certificate, and checking it. A difference in their answers stops the program. It prints
+//! the mean over a line's plants of the best of several calls, in microseconds, the ratio, how the time grows from the size before, and the
+//! most stack that a call used. Run it by run.sh.
+mod certificate;
+mod plain;
+mod plants;
+mod proved;
+mod stack;
+
+use plants::{plant, Plant, Random};
+use std::hint::black_box;
+use std::time::Instant;
+
+const PLANTS: usize = 6;
+const ROUNDS: usize = 25;
+const SLICE: usize = 256;
+const WORK: usize = 64 * 190;
+const LONGEST: usize = 278_736;
+const CALLS: [&str; 4] = ["match", "slices", "write", "check"];
+
+/// What the calls are lent: work numbers, a mapping, a certificate and its length.
+struct Room {
+    work: Vec<i32>,
+    mapping: Vec<u8>,
+    certificate: Vec<u8>,
+    length: usize,
+}
+
+fn room(fill: u8) -> Room {
+    Room { work: vec![fill as i32; WORK], mapping: vec![fill; 64], certificate: vec![fill; LONGEST], length: 0 }
+}
+
+/// A whole job: start, advances, finish.
+macro_rules! job {
+    ($side:ident, $p:expr, $b:expr) => {{
+        let mut job = $side::start(&$p.table, &$p.recorded, &$p.found, &$b.work).unwrap();
+        while $side::advance(&mut job, &$p.table, &$p.recorded, &$p.found, SLICE, &mut $b.work).unwrap() == SLICE {}
+        $side::finish(&job, &$p.table, &$p.recorded, &$p.found, &$b.work, &mut $b.mapping).unwrap() as i64
+    }};
+}
+
+/// One call of either side; its answer as a number. The check is of the certificate that lies in the room.
+fn by_proved(call: usize, p: &Plant, b: &mut Room) -> i64 {
+    match call {
+        0 => proved::match_trees(&p.table, &p.recorded, &p.found, &mut b.work, &mut b.mapping).unwrap() as i64,
+        1 => job!(proved, p, b),
+        2 => {
+            b.length = proved::write(&p.table, &p.recorded, &p.found, &mut b.work, &mut b.certificate).unwrap();
+            b.length as i64
+        }
+        _ => proved::check(&p.table, &p.recorded, &p.found, &b.certificate[..b.length]) as i64,
+    }
+}
+
+fn by_plain(call: usize, p: &Plant, b: &mut Room) -> i64 {
+    match call {
+        0 => plain::match_trees(&p.table, &p.recorded, &p.found, &mut b.work, &mut b.mapping).unwrap() as i64,
+        1 => job!(plain, p, b),
+        2 => {
+            b.length = certificate::write(&p.table, &p.recorded, &p.found, &mut b.work, &mut b.certificate).unwrap();
+            b.length as i64
+        }
+        _ => certificate::check(&p.table, &p.recorded, &p.found, &b.certificate[..b.length]) as i64,
+    }
+}
+
+/// Equal answers, equal work numbers, and either side's certificate accepted by both.
+fn agree(p: &Plant, n: usize) {
+    let all = n * (3 * n - 2);
+    let (mut ours, mut theirs) = (room(1), room(2));
+    for call in 0..CALLS.len() {
+        assert_eq!(by_proved(call, p, &mut ours), by_plain(call, p, &mut theirs), "{}", CALLS[call]);
+        assert_eq!(ours.work[..all], theirs.work[..all], "{}: work numbers", CALLS[call]);
+    }
+    assert_eq!(proved::check(&p.table, &p.recorded, &p.found, &theirs.certificate[..theirs.length]), 0);
+    assert_eq!(certificate::check(&p.table, &p.recorded, &p.found, &ours.certificate[..ours.length]), 0);
+}
+
+/// The microseconds of one call.
+fn time(f: impl FnOnce() -> i64) -> f64 {
+    let start = Instant::now();
+    black_box(f());
+    start.elapsed().as_secs_f64() * 1e6
+}
+
+/// Of a line: the mean over its plants of the best of several calls of the plain and of the proved side, in turn.
+fn measure(call: usize, plants: &[Plant]) -> (f64, f64) {
+    let (mut ours, mut theirs) = (room(0), room(0));
+    let (mut plain_mean, mut proved_mean) = (0.0, 0.0);
+    for p in plants {
+        by_proved(2, p, &mut ours);
+        by_plain(2, p, &mut theirs);
+        let (mut a, mut b) = (f64::MAX, f64::MAX);
+        for _ in 0..ROUNDS {
+            a = a.min(time(|| by_plain(call, black_box(p), &mut theirs)));
+            b = b.min(time(|| by_proved(call, black_box(p), &mut ours)));
+        }
+        plain_mean += a / plants.len() as f64;
+        proved_mean += b / plants.len() as f64;
+    }
+    (plain_mean, proved_mean)
+}
+
+fn stack_used(call: usize, plants: &[Plant], f: fn(usize, &Plant, &mut Room) -> i64) -> usize {
+    let mut b = room(0);
+    plants
+        .iter()
+        .map(|p| {
+            f(2, p, &mut b);
+            stack::used(&mut || {
+                black_box(f(call, p, &mut b));
+            })
+        })
+        .max()
+        .unwrap()
+}
+
+fn main() {
+    let mut random = Random(88172645463325252);
+    let mut worst = [0.0f64; 4];
+    for shape in ["path", "random tree", "balanced hubs", "hubs in a row"] {
+        let mut before = [0.0; 4];
+        for n in [16, 32, 64] {
+            let plants: Vec<Plant> = (0..PLANTS).map(|i| plant(shape, n, i, &mut random)).collect();
+            plants.iter().for_each(|p| agree(p, n));
+            for call in 0..CALLS.len() {
+                let (a, b) = measure(call, &plants);
+                let growth = if before[call] > 0.0 { format!("x{:.1}", b / before[call]) } else { String::new() };
+                println!(
+                    "{:<24} {:<6} plain {a:8.1} us  proved {b:8.1} us  ratio {:5.2}  {growth:<5}  stack {} and {}",
+                    format!("{shape}, {n} by {n}"),
+                    CALLS[call],
+                    b / a,
+                    stack_used(call, &plants, by_plain),
+                    stack_used(call, &plants, by_proved),
+                );
+                before[call] = b;
+                worst[call] = worst[call].max(b / a);
+            }
+        }
+    }
+    let lines: Vec<String> = CALLS.iter().zip(worst).map(|(c, w)| format!("{c} {w:.2}")).collect();
+    println!("worst ratios: {}", lines.join(", "));
+}

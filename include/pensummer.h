@@ -1,0 +1,98 @@
+/* The C interface of Pensummer: matching two trees under a weight table, in one call or as a job in slices, and writing and checking a certificate of
+ * optimality. Link with libexports.a (`rt staticlib exports`).
+ *
+ * Every buffer is a pointer and a count of elements; the pointer is not null, not even for a count of 0. Lent buffers do not overlap. `table`,
+ * `recorded` and `found` are bytes in the formats of paper 01: a weight table, the tree recorded at commissioning (n vertices) and the one found
+ * (m vertices). No function asks anything of their content, keeps a pointer, allocates, or reads or writes past an end.
+ *
+ * A refusal number is 0 where the call was carried out, else the number of the first item of paper 01, "Why a call is turned down", that applies among
+ * those that the call tests, in its order. A call that is turned down changes nothing that it was lent. Buffers may be longer than needed: what lies
+ * behind is left as it was.
+ *
+ * There are n(3m - 2) subproblems, never more than 12,160. */
+#ifndef PENSUMMER_H
+#define PENSUMMER_H
+
+#include <stdbool.h>
+#include <stddef.h>
+#include <stdint.h>
+
+#ifdef __cplusplus
+extern "C" {
+#endif
+
+/* A certificate is never longer, in bytes. */
+#define PENSUMMER_CERTIFICATE_MOST 278736
+/* There are never more work numbers to lend. */
+#define PENSUMMER_WORK_MOST 12160
+/* A tree has no more vertices, so that no mapping is longer. */
+#define PENSUMMER_VERTICES_MOST 64
+/* The partner of a vertex without one. */
+#define PENSUMMER_NONE 255
+
+/* refusal: as above; weight: the mapping's, 0 where the call was turned down. */
+struct pensummer_match_result {
+    uint32_t refusal;
+    int32_t weight;
+};
+
+/* A job's state. It belongs to the caller, who lends it to each call. */
+struct pensummer_job {
+    bool idle;
+    uint32_t n, m, position, total;
+};
+
+/* count: the subproblems that this call solved, 0 where it was turned down. */
+struct pensummer_advance_result {
+    uint32_t refusal;
+    uint32_t count;
+};
+
+/* length: the certificate's, in bytes, 0 where the call was turned down. */
+struct pensummer_write_result {
+    uint32_t refusal;
+    uint32_t length;
+};
+
+/* The match in one call. Tests 1 to 13 and 18. Leaves all values in order in the first n(3m - 2) work numbers, and in the first n bytes of `mapping`
+ * a heaviest mapping: for each recorded vertex its partner, or 255. The weight is that mapping's, and no mapping weighs more. */
+struct pensummer_match_result pensummer_match(const uint8_t *table, size_t table_len, const uint8_t *recorded, size_t recorded_len,
+                                              const uint8_t *found, size_t found_len, int32_t *work, size_t work_len,
+                                              uint8_t *mapping, size_t mapping_len);
+
+/* A fresh job record: idle, all numbers 0. */
+struct pensummer_job pensummer_fresh(void);
+
+/* Begins a job, also over an earlier one. Tests 1 to 13; gives the refusal number. Clears the idle mark and sets n, m and position 0; the total and
+ * all work numbers stay. */
+uint32_t pensummer_start(struct pensummer_job *job, const uint8_t *table, size_t table_len, const uint8_t *recorded, size_t recorded_len,
+                         const uint8_t *found, size_t found_len, const int32_t *work, size_t work_len);
+
+/* Solves the smaller of `budget` and what is left. Tests 1 to 16. Fills exactly that many work numbers, from the position on, and adds the count to the
+ * position and to the total, which stops at 4,294,967,295. */
+struct pensummer_advance_result pensummer_advance(struct pensummer_job *job, const uint8_t *table, size_t table_len,
+                                                  const uint8_t *recorded, size_t recorded_len, const uint8_t *found, size_t found_len,
+                                                  uint32_t budget, int32_t *work, size_t work_len);
+
+/* Reads the mapping of a job whose subproblems are all solved. Tests 1 to 18. Leaves a mapping in the first n bytes of `mapping`, and gives its exact
+ * weight; over memory that nothing but the job's own calls has changed since the start, it is a heaviest one. Changes no record. */
+struct pensummer_match_result pensummer_finish(const struct pensummer_job *job, const uint8_t *table, size_t table_len,
+                                               const uint8_t *recorded, size_t recorded_len, const uint8_t *found, size_t found_len,
+                                               const int32_t *work, size_t work_len, uint8_t *mapping, size_t mapping_len);
+
+/* Writes a certificate into the front of `certificate`. Tests 1 to 13 and 19. Leaves all values in order in the first n(3m - 2) work numbers. The check
+ * accepts what is written. */
+struct pensummer_write_result pensummer_write(const uint8_t *table, size_t table_len, const uint8_t *recorded, size_t recorded_len,
+                                              const uint8_t *found, size_t found_len, int32_t *work, size_t work_len,
+                                              uint8_t *certificate, size_t certificate_len);
+
+/* Checks a certificate, whoever wrote it. Tests 1 to 12 and 20 to 24; gives the refusal number, 0 for accepted. Where it is accepted, the mapping in it
+ * is a heaviest one and the weight in it is that mapping's. */
+uint32_t pensummer_check(const uint8_t *table, size_t table_len, const uint8_t *recorded, size_t recorded_len,
+                         const uint8_t *found, size_t found_len, const uint8_t *certificate, size_t certificate_len);
+
+#ifdef __cplusplus
+}
+#endif
+
+#endif
