@@ -40,6 +40,11 @@ unfolding every
 every-all p zero h = refl
 every-all p (suc n) h = rw (every-all p n (λ k l. h k (omega arith)), h n (omega arith))
 
+pub every-ext : (p q : ℕ → Bool) (n : ℕ) → ((k : ℕ) → k < n → p k ≡ q k) → every p n ≡ every q n
+unfolding every
+every-ext p q zero h = refl
+every-ext p q (suc n) h = rw (every-ext p q n (λ k l. h k (omega arith)), h n (omega arith))
+
 pub every-fails : (p : ℕ → Bool) (k n : ℕ) → k < n → p k ≡ false → every p n ≡ false
 unfolding every
 every-fails p k zero h e = absurd (omega arith)

@@ -12,7 +12,7 @@ use lib.ListN.{length, getD}
 use lib.IntN.{ℤ, pos, negℤ}
 use lib.Signed.{leZ}
 use Rattle.foundations.specs.Tests.{less?}
-use Rattle.foundations.specs.Lists.{every}
+use Rattle.foundations.specs.Lists.{every, every-ext}
 use Rattle.model.specs.Limits.{weightLimit, ceiling}
 use Rattle.model.specs.Weights.{weighed, isForbidden}
 use Rattle.model.specs.Tree.{count}
@@ -92,11 +92,6 @@ row-test {table} {r} {f} {starts} {work} {base} {u} {m} {upto} R k v w z b l e g
     h ∙ rw (located-is f _ _ (R .accepted .found) starts (R .offsets) m k v (R .counted) l, e, g)
 
 -- ---- all rows
-
-every-ext : (p q : ℕ → Bool) (n : ℕ) → ((k : ℕ) → k < n → p k ≡ q k) → every p n ≡ every q n
-unfolding every
-every-ext p q zero h = refl
-every-ext p q (suc n) h = rw (every-ext p q n (λ k l. h k (omega arith)), h n (omega arith))
 
 and-assoc : (a b c : Bool) → (a && (b && c)) ≡ ((a && b) && c)
 and-assoc true b c = refl

@@ -11,7 +11,7 @@ use lib.Seq.{length-take-le, getD-take}
 use lib.Dec.{eqb, leb}
 use lib.IntN.{ℤ}
 use borrow.Author.Tests.{eq-eqb, ne-eqb, lt-ltb, le-ltb}
-use Rattle.foundations.specs.Lists.{every}
+use Rattle.foundations.specs.Lists.{every, every-ext}
 use Rattle.foundations.specs.Counting.{cnt, cnt-ext}
 use Rattle.foundations.specs.Tests.{is-false, and-split, passed}
 use Rattle.model.specs.Limits.{noVertex}
@@ -157,11 +157,6 @@ unfolding cnt
 cnt-step q i k d b e g h = rw (add-one, cnt, h, e, g)
 
 -- ---- the whole: the tests see only the first n bytes
-
-every-ext : (p q : ℕ → Bool) (n : ℕ) → ((k : ℕ) → k < n → p k ≡ q k) → every p n ≡ every q n
-unfolding every
-every-ext p q zero h = refl
-every-ext p q (suc n) h = rw (every-ext p q n (λ k l. h k (omega arith)), h n (omega arith))
 
 module _ (table r f p q : List ℕ) (K L : ℕ) (P : Passed r K L) (same : (x : ℕ) → x < count r → partner p x ≡ partner q x) where
   mapped-same : (u : ℕ) → u < count r → mapped p u ≡ mapped q u

@@ -11,7 +11,7 @@ use lib.Dec.{T, eqb, ltb}
 use borrow.Author.Tests.{lt-ltb, le-ltb, ltb-true, ltb-false, ne-eqb}
 use Rattle.foundations.specs.Tests.{same, less?, eqb-same, T→true}
 use Rattle.foundations.specs.Int.{up, int, canon}
-use Rattle.foundations.specs.Sums.{sum, pick, lsum}
+use Rattle.foundations.specs.Sums.{sum, pick, lsum, sum-first}
 use Rattle.foundations.specs.Members.{mem, mem-nil, mem-here, mem-there, mem-cases, mem-ne, getD-mem, Distinct, del, mem-del, del-mem, lsum-ext, mem-occ, distinct-occ, place, place-low, place-at, place-one}
 use Rattle.model.specs.Weights.{Weight, none, some, _⊑_, plusW, maxW}
 use Rattle.model.specs.Values.{greatest, best}
@@ -59,18 +59,13 @@ del-sum v (x ∷ l) b t = ⊎-elim
     (λ e. rw (e .1) (⊎-elim (λ q. absurd (e .0 q)) (λ m. let i = del-sum v l b m in omega arith) (mem-cases v x l t)))
     (same v x)
 
-sum-shift : (n : ℕ) (f : ℕ → ℕ) → sum (suc n) f ≡ f 0 + sum n (λ i. f (suc i))
-unfolding sum
-sum-shift zero f = omega arith
-sum-shift (suc n) f = omega (arith, sum-shift n f)
-
 -- over the elements by their places, as over the places
 nsum-place : (l : List ℕ) (f : ℕ → ℕ) → Distinct l → nsum l (λ c. f (place c l)) ≡ sum (length l) f
 unfolding nsum place sum
 nsum-place [] f d = refl
 nsum-place (x ∷ l) f d =
     let e : nsum l (λ c. f (cond (eqb c x) 0 (suc (place c l)))) ≡ nsum l (λ c. f (suc (place c l))) = nsum-ext l _ _ (λ c t. rw (ne-eqb c x (mem-ne c x l (d .0) t))) in
-    rw (eqb-same x) (omega (arith, e, nsum-place l (λ i. f (suc i)) (d .1), sum-shift (length l) f))
+    rw (eqb-same x) (omega (arith, e, nsum-place l (λ i. f (suc i)) (d .1), sum-first (length l) f))
 
 lsum-pos : (l : List ℕ) (f : ℕ → ℕ) → lsum l (λ c. pos (f c)) ≡ pos (nsum l f)
 unfolding nsum lsum

@@ -29,6 +29,9 @@ pub record Ends (s : List ℕ) (n : ℕ) : Type 0 where
   pub long : length s ≡ 8 * n - 2
   pub low : (j : ℕ) → j < n - 1 → (endA s n j < n) × (endB s n j < n)
 
+pub whole : {s : List ℕ} {n : ℕ} → Ends s n → Whole s n
+whole e = record { some = e .some; few = e .few; long = e .long }
+
 pub sized-says : (s : List ℕ) → sized s ≡ true → Whole s (count s)
 unfolding sized
 sized-says s h =

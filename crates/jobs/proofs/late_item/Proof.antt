@@ -3,16 +3,13 @@ use mathlib.Core.Path.{sym, _∙_}
 use mathlib.Core.List.{List}
 use Prim.Native.Nat.{ℕ}
 use Rattle.foundations.specs.Tests.{not-says, passed}
-use Rattle.trees.specs.Accepted.{Whole, Ends}
+use Rattle.trees.specs.Accepted.{whole}
 use Rattle.formats.specs.Inputs.{input-accepted}
 use Rattle.job_items.specs.Items.{early-passed, finish-work, finish-left, finish-mapping, finish-none}
 use native.Mathlib.Omega.{arith}
 use borrow.Author.Needs.{needs}
 use Rattle.jobs.proofs.late_item.Statement.{statement}
 use Rattle.jobs.proofs.late_item.Tie as tie
-
-whole : {s : List ℕ} {n : ℕ} → Ends s n → Whole s n
-whole e = record { some = e .some; few = e .few; long = e .long }
 
 cast-work-ok : tie.Need-cast-work-ok
 cast-work-ok c = search needs

@@ -7,7 +7,7 @@ use borrow.Author.Needs.{needs}
 use Rattle.model.specs.Tree.{count}
 use Rattle.model.specs.Order.{width, subproblems}
 use Rattle.model.specs.Calls.{inputItem}
-use Rattle.trees.specs.Accepted.{Whole, Ends}
+use Rattle.trees.specs.Accepted.{whole}
 use Rattle.formats.specs.Inputs.{input-accepted}
 use Rattle.one_call.specs.Items.{match-input, match-work, match-mapping, match-none}
 use Rattle.one_call.proofs.match_item.Statement.{statement}
@@ -18,9 +18,6 @@ passes : (c : tie.Else1) →
     let a = c .before .before .before .before .before .before .args in
     inputItem (a .table .now) (a .recorded .now) (a .found .now) ≡ 0
 passes c = let z : c .before .input-item .result ≡ 0 = search needs in sym (c .before .input-item .ensures) ∙ z
-
-whole : {s : _} {n : ℕ} → Ends s n → Whole s n
-whole e = record { some = e .some; few = e .few; long = e .long }
 
 -- the two counts, and that their product is small
 record Counts (r f n m : ℕ) : Type 0 where

@@ -8,7 +8,7 @@ use borrow.Author.Needs.{needs}
 use lib.ListN.{replicate, drop}
 use Rattle.model.specs.Order.{width, subproblems}
 use Rattle.model.specs.Values.{fill}
-use Rattle.trees.specs.Accepted.{Whole, Ends}
+use Rattle.trees.specs.Accepted.{whole}
 use Rattle.formats.specs.Inputs.{input-accepted}
 use Rattle.solver.specs.Plan.{ready-known}
 use Rattle.one_call.specs.Top.{top-pair}
@@ -16,9 +16,6 @@ use Rattle.one_call.specs.Assemble.{all-at, lent-after}
 use Rattle.one_call.specs.Call.{solved-empty, solved-read}
 use Rattle.one_call.proofs.solve_and_read.Statement.{statement}
 use Rattle.one_call.proofs.solve_and_read.Tie as tie
-
-whole : {s : List ℕ} {n : ℕ} → Ends s n → Whole s n
-whole e = record { some = e .some; few = e .few; long = e .long }
 
 -- the two counts, and that their product is small
 record Counts (n m : ℕ) : Type 0 where

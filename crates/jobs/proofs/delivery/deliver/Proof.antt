@@ -4,16 +4,13 @@ use mathlib.Core.List.{List, _++_}
 use Prim.Native.Nat.{ℕ}
 use lib.ListN.{replicate, drop}
 use Rattle.foundations.specs.Machine.{back}
-use Rattle.trees.specs.Accepted.{Whole, Ends}
+use Rattle.trees.specs.Accepted.{whole}
 use Rattle.formats.specs.Inputs.{input-accepted}
 use Rattle.one_call.specs.Top.{top-pair}
 use Rattle.jobs.specs.Delivery.{known-all, delivered-empty, read-legal, delivered-read}
 use borrow.Author.Needs.{needs}
 use Rattle.jobs.proofs.delivery.deliver.Statement.{statement}
 use Rattle.jobs.proofs.delivery.deliver.Tie as tie
-
-whole : {s : List ℕ} {n : ℕ} → Ends s n → Whole s n
-whole e = record { some = e .some; few = e .few; long = e .long }
 
 largest-requires : tie.Need-largest-requires
 largest-requires c κs =

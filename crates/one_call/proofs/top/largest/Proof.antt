@@ -2,7 +2,7 @@
 use mathlib.Core.Path.{_≡_, _∙_, subst}
 use mathlib.Core.List.{List}
 use Prim.Native.Nat.{ℕ, _-_, _≤_, _<_}
-use Rattle.trees.specs.Accepted.{Whole, Ends}
+use Rattle.trees.specs.Accepted.{whole}
 use Rattle.one_call.specs.Top.{TopOf, top-none, top-end, row-at, width-few}
 use borrow.Author.Needs.{needs}
 use native.Mathlib.Omega.{arith}
@@ -25,9 +25,6 @@ counts : (c : tie.After-vertex-count2 Inv-loop μ-loop) → (c .before .vertex-c
 counts c =
     let A = c .before .before .before .before .pre in
     (rw (c .before .vertex-count .ensures) (A .recorded .passed .ends .few), rw (c .vertex-count2 .ensures) (A .found .passed .ends .few))
-
-whole : {s : List ℕ} {n : ℕ} → Ends s n → Whole s n
-whole e = record { some = e .some; few = e .few; long = e .long }
 
 vertex-count-requires : tie.Need-vertex-count-requires Inv-loop μ-loop
 vertex-count-requires c κs = whole (c .before .before .pre .recorded .passed .ends)
