@@ -100,23 +100,25 @@ pub fn record_sizes(
     s
 }
 
-// Where the records of each vertex in postorder begin, and where the last ones end.
+// Where the records of each vertex in postorder begin, the first at `first`, and where the last ones end.
 pub fn row_begins(
     recorded: &[u8],
     found: &[u8],
     sizes: &[usize; 64],
     sums: &[usize; 65],
+    first: usize,
 ) -> [usize; 65]
     requires { ⌜ Inputs (now recorded) (now found) ⌝ }
     requires { ⌜ SizesTo (now recorded) (count (now recorded)) (now sizes) ⌝ }
     requires { ⌜ SumsTo (now found) (count (now found)) (now sums) ⌝ }
+    requires { ⌜ first ≡ 8 + 3 * count (now recorded) ⌝ }
     ensures { λ r. ⌜ Rows (now (recorded .entry)) (now (found .entry)) r (now (sizes .entry)) (now (sums .entry)) ⌝ }
 {
     let n = vertex_count(recorded);
     let m = vertex_count(found);
     let w = width_of(found);
     let mut b = [0usize; 65];
-    b[0] = 8 + 3 * n;
+    b[0] = first;
     let mut i: usize = 0;
     while i < n {
         b[i + 1] = b[i] + w * sizes[i] + 4 * sums[m];
