@@ -1,2 +1,3 @@
 -- Duals of subproblems, and what a written certificate holds.
 pub mod Left
+pub mod Solved
