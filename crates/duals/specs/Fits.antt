@@ -4,19 +4,19 @@ use mathlib.Core.Logic.{⊎-elim}
 use mathlib.Core.List.{List, _++_}
 use Prim.Native.Nat.{ℕ, zero, suc, _+_, _≤_, _<_}
 use native.Mathlib.Omega.{arith}
-use lib.ListN.{length, getD, take, drop, take-append-drop}
+use lib.ListN.{length, getD, take, drop, take-append-drop, List·getD-append}
 use lib.IntN.{ℤ, pos, _+ℤ_}
 use Rattle.foundations.specs.Int.{int}
 use Rattle.foundations.specs.Sums.{sum}
 use Rattle.foundations.specs.Tests.{same?}
 use Rattle.model.specs.Weights.{Weight, none, some}
 use Rattle.model.specs.Graph.{neighbours}
-use Rattle.model.specs.Order.{children, subproblems}
+use Rattle.model.specs.Order.{children, subproblems, uAt, vAt, sAt}
 use Rattle.model.specs.Pairs.{vertexPair}
-use Rattle.model.specs.Values.{Subproblem, value, valueFrom, values, recalled}
+use Rattle.model.specs.Values.{Subproblem, value, valueFrom, values, number, recalled}
 use Rattle.model.specs.Calls.{inputItem}
 use Rattle.formats.specs.Inputs.{input-accepted}
-use Rattle.subtrees.specs.Filling.{recalled-values}
+use Rattle.subtrees.specs.Filling.{values-long, values-at, recalled-values}
 use Rattle.subtrees.specs.Theorems.{work-solves}
 use Rattle.subtrees.specs.ValueRange.{value-range, vertex-range}
 use Rattle.duals.specs.Left.{DualsAt}
@@ -39,6 +39,13 @@ module _ (table r f : List ℕ) (passes : inputItem table r f ≡ 0) (work : Lis
   work-value u v s q =
       sym (work-recalls u v s q)
       ∙ subst (λ (x : List ℤ). recalled r f x u v s ≡ valueFrom table r f (recalled r f x) u v s) work-is (work-solves table r f passes (drop (subproblems r f) work) u v s q)
+
+  pub work-at : (k : ℕ) → k < subproblems r f → getD work k (pos 0) ≡ number (value table r f (uAt r f k) (vAt f k) (sAt f k))
+  work-at k l =
+      let A = input-accepted table r f passes in
+      ap (λ (x : List ℤ). getD x k (pos 0)) (sym work-is)
+      ∙ List·getD-append (values table r f) (drop (subproblems r f) work) (pos 0) k (rw (values-long table r f A) l)
+      ∙ values-at table r f A k l
 
   -- the value is the weight of the pair plus all duals
   pub duals-value : (u v s : ℕ) (y z : List ℕ) → DualsAt table r f work u v s y z → Subproblem r f u v s → (w : ℤ) → vertexPair table r f u v ≡ some w → value table r f u v s ≡ some (w +ℤ pos (sum (length (children r u)) (λ i. getD y i 0) + sum (length (neighbours f v)) (λ j. getD z j 0)))

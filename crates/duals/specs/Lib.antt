@@ -2,3 +2,4 @@
 pub mod Left
 pub mod Solved
 pub mod Fits
+pub mod Accepted
