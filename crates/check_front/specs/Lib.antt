@@ -1,0 +1,2 @@
+-- The front of a certificate's check.
+pub mod Front
