@@ -1,6 +1,6 @@
 -- What the steps of the front say, and what they say together. Assumes nothing.
 use mathlib.Core.Path.{_≡_, refl, sym, ap, _∙_}
-use mathlib.Core.Bool.{cond}
+use mathlib.Core.Bool.{Bool, true, false, not, cond}
 use mathlib.Core.List.{List, [], _∷_, _++_}
 use Prim.Native.Nat.{ℕ, _+_, _*_, _-_, _≤_, _<_}
 use native.Mathlib.Omega.{arith}
@@ -12,9 +12,9 @@ use borrow.Author.Tests.{eqb-true, eq-eqb}
 use mir.Syntax.{w32}
 use mir.Val.{SFits, toZ, ofZ}
 use mir.Facts.{toZ-ofZ}
-use Rattle.foundations.specs.Tests.{same-test}
+use Rattle.foundations.specs.Tests.{same-test, cond-no, cond-yes}
 use Rattle.foundations.specs.Lists.{tab, length-tab, fill-step}
-use Rattle.model.specs.Bytes.{byteAt}
+use Rattle.model.specs.Bytes.{byteAt, int32At}
 use Rattle.model.specs.Tree.{count}
 use Rattle.model.specs.Mapping.{weight, mappingOk}
 use Rattle.model.specs.Certificate.{eqZ, weightIn, mappingIn, certificateLength}
@@ -71,6 +71,32 @@ unfolding certificateLength
 partners-inside r f z e = omega arith
 
 -- they are its mapping
-pub partners-mapping : (r z p : List ℕ) (at : ℕ) → at ≡ 0 → PartnersAt z (at + 8) (count r) p → take (count r) p ≡ mappingIn r z
+pub record PartnersOf (r z p : List ℕ) : Type 0 where
+  pub long : length p ≡ 64
+  pub front : take (count r) p ≡ mappingIn r z
+
+pub partners-of : (r z p : List ℕ) (at n : ℕ) → at ≡ 0 → n ≡ count r → PartnersAt z (at + 8) n p → PartnersOf r z p
 unfolding mappingIn
-partners-mapping r z p at e h = h .front ∙ rw e
+partners-of r z p at n e g h =
+    record { long = h .long; front = (rw g at (h .front)) ∙ rw e }
+
+-- the weight read and the sum, compared
+pub weights-compared : (table r f z p : List ℕ) (at : ℕ) (v w : ℤ) (b : Bool) → at ≡ 0 → PartnersOf r z p → v ≡ int32At z (at + 4) → w ≡ weight table r f (take (count r) p) → b ≡ eqZ v w → b ≡ eqZ (weightIn z) (weight table r f (mappingIn r z))
+weights-compared table r f z p at v w b e h g k q =
+    let first : v ≡ weightIn z = g ∙ rw e in
+    q ∙ ap (λ (x : ℤ). eqZ x w) first ∙ ap (eqZ (weightIn z)) (k ∙ ap (weight table r f) (h .front))
+
+-- what each test gives: `ok` and `eq` are the code's tests
+module _ (table r f z : List ℕ) (ok : Bool) (e : ok ≡ mappingOk table r f (mappingIn r z)) where
+  pub item-21 : not ok ≡ true → 21 ≡ mappingItem table r f z
+  unfolding mappingItem
+  item-21 h = cond-no (mappingOk table r f (mappingIn r z)) ok _ 21 e h
+
+  module _ (eq : Bool) (g : eq ≡ eqZ (weightIn z) (weight table r f (mappingIn r z))) (h : not ok ≡ false) where
+    pub item-22 : not eq ≡ true → 22 ≡ mappingItem table r f z
+    unfolding mappingItem
+    item-22 k = cond-yes (mappingOk table r f (mappingIn r z)) ok 22 _ 21 e h (cond-no (eqZ (weightIn z) (weight table r f (mappingIn r z))) eq 0 22 g k)
+
+    pub item-none : not eq ≡ false → 0 ≡ mappingItem table r f z
+    unfolding mappingItem
+    item-none k = cond-yes (mappingOk table r f (mappingIn r z)) ok 0 _ 21 e h (cond-yes (eqZ (weightIn z) (weight table r f (mappingIn r z))) eq 0 0 22 g k refl)
