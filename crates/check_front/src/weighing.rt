@@ -3,14 +3,11 @@ use formats::tree::vertex_count;
 use integers::int32_at;
 use mapping_test::mapping_ok;
 use readout::weigh::weigh;
-ghost use Prim.Native.Nat.{ℕ, _+_, _*_, _≤_};
+ghost use Prim.Native.Nat.{_+_, _*_, _≤_};
 ghost use mathlib.Core.Path.{_≡_};
-ghost use mathlib.Core.Bool.{true, cond};
 ghost use lib.ListN.{length};
-ghost use Rattle.model.specs.Tree.{count};
 ghost use Rattle.model.specs.Certificate.{eqZ, certificateLength};
-ghost use Rattle.solver.specs.Plan.{Ready};
-ghost use Rattle.check_front.specs.Steps.{PartnersAt, mappingItem};
+ghost use Rattle.check_front.specs.Steps.{PartnersAt, ForMapping, mappingItem};
 
 // The partner bytes of the n records from `at` on, in the first n places.
 fn partners(z: &[u8], at: usize, n: usize) -> [u8; 64]
@@ -44,13 +41,11 @@ pub fn mapping_item(
     rlabels: &[[u8; 8]; 64],
     fnear: &[[u8; 8]; 64],
     flabels: &[[u8; 8]; 64],
-    order: &[u8; 64],
     place: &[u8; 64],
-    starts: &[usize; 65],
     z: &[u8],
     at: usize,
 ) -> u32
-    requires { ⌜ Ready (now table) (now recorded) (now found) (now weights) (now rnear) (now rlabels) (now fnear) (now flabels) (now order) (now place) (now starts) ⌝ }
+    requires { ⌜ ForMapping (now table) (now recorded) (now found) (now weights) (now rnear) (now rlabels) (now fnear) (now flabels) (now place) ⌝ }
     requires { ⌜ length (now z) ≡ certificateLength (now recorded) (now found) ⌝ }
     requires { ⌜ at ≡ 0 ⌝ }
     ensures { λ r. ⌜ r ≡ mappingItem (now (table .entry)) (now (recorded .entry)) (now (found .entry)) (now (z .entry)) ⌝ }

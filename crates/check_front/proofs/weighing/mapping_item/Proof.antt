@@ -74,7 +74,7 @@ partners-requires c κs =
 mapping-ok-requires : tie.Need-mapping-ok-requires
 mapping-ok-requires c κs =
     let R = start (c .before) .pre .0 in
-    (R .passes, ((R .recorded .neighbours, R .recorded .edges), ((R .found .neighbours, R .found .edges), (R .recorded .placed, room (c .before)))))
+    (R .passes, (R .recorded, (R .found, (R .placed, room (c .before)))))
 
 returns : tie.Need-returns
 returns c = item-21 _ _ _ _ (c .before .mapping-ok .result) (tested (c .before)) (c .if1 .taken)
@@ -90,7 +90,7 @@ weigh-requires c κs =
     let R = s .pre .0 in
     let P = stands p in
     let ok = passed (mappingOk (s .args .table .now) (s .args .recorded .now) (s .args .found .now) (mappingIn (s .args .recorded .now) (s .args .z .now))) (m .mapping-ok .result) (tested m) (c .before .if1 .left) in
-    (R .passes, (R .weights, ((R .found .neighbours, R .found .edges), (room p, subst (IsMapping (s .args .table .now) (s .args .recorded .now) (s .args .found .now)) (sym (P .front)) (quick-mapping _ _ _ (R .passes) _ .0 ok)))))
+    (R .passes, (R .weights, (R .found, (room p, subst (IsMapping (s .args .table .now) (s .args .recorded .now) (s .args .found .now)) (sym (P .front)) (quick-mapping _ _ _ (R .passes) _ .0 ok)))))
 
 add-int32-at : tie.Need-add-int32-at
 add-int32-at c = search needs
