@@ -81,8 +81,9 @@ pub fn check_front(table: &[u8], recorded: &[u8], found: &[u8], certificate: &[u
 {
     let item = input_item(table, recorded, found);
     if item != 0 {
+        let refusal = item as u32;
         return Front {
-            refusal: item as u32,
+            refusal: refusal,
             next: at,
         };
     }
@@ -110,8 +111,10 @@ pub fn check_front(table: &[u8], recorded: &[u8], found: &[u8], certificate: &[u
         certificate,
         at,
     );
+    let n = vertex_count(recorded);
+    let next = at + 8 + 3 * n;
     Front {
         refusal: k,
-        next: at + 8 + 3 * vertex_count(recorded),
+        next: next,
     }
 }
