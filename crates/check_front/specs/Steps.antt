@@ -9,22 +9,23 @@ use lib.ListN.{length, getD, set, take, drop, replicate, length-append, length-d
 use lib.Dec.{eqb}
 use lib.IntN.{ℤ}
 use lib.Seq.{take-append-le, take-all}
-use borrow.Author.Tests.{eqb-true, eq-eqb}
+use borrow.Author.Tests.{eqb-true, eq-eqb, ne-eqb}
 use mir.Syntax.{w32}
 use mir.Val.{SFits, toZ, ofZ}
 use mir.Facts.{toZ-ofZ}
 use Rattle.foundations.specs.Tests.{same-test, cond-no, cond-yes, and-split}
-use Rattle.foundations.specs.Lists.{tab, length-tab, fill-step}
-use Rattle.model.specs.Bytes.{byteAt, int32At}
+use Rattle.foundations.specs.Lists.{every, tab, length-tab, fill-step}
+use Rattle.model.specs.Bytes.{byteAt, isMark, int32At}
 use Rattle.model.specs.Tree.{count}
 use Rattle.model.specs.Graph.{neighbourTable, edgeLabelTable}
-use Rattle.model.specs.Order.{position}
+use Rattle.model.specs.Order.{position, subproblems}
 use Rattle.model.specs.Calls.{inputItem}
 use Rattle.model.specs.Mapping.{weight, mappingOk}
-use Rattle.model.specs.Certificate.{eqZ, weightIn, mappingIn, certificateLength, shapeOk, checkOf}
+use Rattle.model.specs.Certificate.{headMark, partnerMark, recordMark, certificateLength, recordLength, recordAt, weightIn, mappingIn, eqZ, shapeOk, checkOf}
 use Rattle.certificate.specs.Items.{check-input, check-20, check-21, check-22}
 use Rattle.certificate.specs.Rules.{eqZ-says, eqZ-same}
 use Rattle.solver.specs.Plan.{EdgeWeights, Ready}
+use Rattle.records.specs.Places.{Inputs, record-in}
 use Rattle.check_front.specs.Front.{FrontPassed, FrontChecked}
 
 -- ---- what the steps take of what a call has read
@@ -56,6 +57,33 @@ module _ {table r f : List ℕ} {numbers : List ℤ} {rnear rlabels fnear flabel
     found = (N .found .neighbours, N .found .edges);
     placed = N .recorded .placed;
   }
+
+-- ---- the shape
+
+-- each record's mark lies inside a certificate of the right length
+pub mark-inside : (r f z : List ℕ) (k : ℕ) → Inputs r f → length z ≡ certificateLength r f → k < subproblems r f → recordAt r f k + 1 < length z
+unfolding recordLength
+mark-inside r f z k I e l = let h = record-in I k l in omega arith
+
+pub shape-short : (r f z : List ℕ) → length z ≢ certificateLength r f → false ≡ shapeOk r f z
+unfolding shapeOk
+shape-short r f z n = let e = ne-eqb (length z) (certificateLength r f) n in rw e
+
+-- head, partners and records together; the certificate begins at `at`
+pub shape-whole : (r f z : List ℕ) (at n m : ℕ) (head partners records : Bool) → at ≡ 0 → n ≡ count r → m ≡ count f → length z ≡ certificateLength r f →
+    head ≡ (isMark z at headMark && (eqb (byteAt z (at + 2)) n && eqb (byteAt z (at + 3)) m)) →
+    partners ≡ every (λ u. isMark z (at + 8 + 3 * u) partnerMark) n →
+    records ≡ every (λ k. isMark z (recordAt r f k) recordMark) (subproblems r f) →
+    (head && (partners && records)) ≡ shapeOk r f z
+unfolding shapeOk
+shape-whole r f z at n m head partners records a en em el h p q =
+    rw (h, p, q, a, en, em, eq-eqb (length z) (certificateLength r f) el)
+    (joined (isMark z 0 headMark) (eqb (byteAt z 2) (count r)) (eqb (byteAt z 3) (count f)) _)
+  where
+    joined : (a b c d : Bool) → ((a && (b && c)) && d) ≡ (a && (b && (c && d)))
+    joined true true c d = refl
+    joined true false c d = refl
+    joined false b c d = refl
 
 -- ---- partners
 
