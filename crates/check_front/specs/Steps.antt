@@ -1,9 +1,9 @@
 -- What the steps of the front say, and what they say together. Assumes nothing.
 use mathlib.Core.Path.{_≡_, refl, sym, ap, _∙_}
-use mathlib.Core.Logic.{_≢_, _⊎_, inl, inr, ⊎-elim}
+use mathlib.Core.Logic.{_≢_}
 use mathlib.Core.Bool.{Bool, true, false, not, cond, _&&_}
-use mathlib.Core.List.{List, [], _∷_, _++_}
-use Prim.Native.Nat.{ℕ, _+_, _*_, _-_, _≤_, _<_}
+use mathlib.Core.List.{List, _++_}
+use Prim.Native.Nat.{ℕ, _+_, _*_, _≤_, _<_}
 use native.Mathlib.Omega.{arith}
 use lib.ListN.{length, getD, set, take, drop, replicate, length-append, length-drop, length-replicate}
 use lib.Dec.{eqb}
@@ -21,12 +21,12 @@ use Rattle.model.specs.Graph.{neighbourTable, edgeLabelTable}
 use Rattle.model.specs.Order.{position, subproblems}
 use Rattle.model.specs.Calls.{inputItem}
 use Rattle.model.specs.Mapping.{weight, mappingOk}
-use Rattle.model.specs.Certificate.{headMark, partnerMark, recordMark, certificateLength, recordLength, recordAt, weightIn, mappingIn, eqZ, shapeOk, checkOf}
+use Rattle.model.specs.Certificate.{headMark, partnerMark, recordMark, certificateLength, recordLength, recordAt, weightIn, mappingIn, eqZ, shapeOk}
 use Rattle.certificate.specs.Items.{check-input, check-20, check-21, check-22}
 use Rattle.certificate.specs.Rules.{eqZ-says, eqZ-same}
 use Rattle.solver.specs.Plan.{EdgeWeights, Ready}
 use Rattle.records.specs.Places.{Inputs, record-in}
-use Rattle.check_front.specs.Front.{FrontPassed, FrontChecked}
+use Rattle.check_front.specs.Front.{FrontChecked}
 
 -- ---- what the steps take of what a call has read
 
@@ -105,7 +105,6 @@ partners-more z at u p l h = record { is = fill-step (λ u. byteAt z (at + 2 + 3
 
 pub partners-long : {z : List ℕ} {at u : ℕ} {p : List ℕ} → u ≤ 64 → PartnersTo z at u p → length p ≡ 64
 partners-long {z} {at} {u} {p} l h =
-    let g : ℕ → ℕ = λ u. byteAt z (at + 2 + 3 * u) in
     ap length (h .is) ∙ rw (length-append, length-tab, length-drop, length-replicate {A = ℕ} 64 255) (omega arith)
 
 pub partners-end : (z : List ℕ) (at u n : ℕ) (p : List ℕ) → n ≤ 64 → u ≡ n → PartnersTo z at u p → PartnersAt z at n p
@@ -142,8 +141,7 @@ pub record PartnersOf (r z p : List ℕ) : Type 0 where
 
 pub partners-of : (r z p : List ℕ) (at n : ℕ) → at ≡ 0 → n ≡ count r → PartnersAt z (at + 8) n p → PartnersOf r z p
 unfolding mappingIn
-partners-of r z p at n e g h =
-    record { long = h .long; front = (rw g at (h .front)) ∙ rw e }
+partners-of r z p at n e g h = record { long = h .long; front = (rw g at (h .front)) ∙ rw e }
 
 -- the weight read and the sum, compared
 pub weights-compared : (table r f z p : List ℕ) (at : ℕ) (v w : ℤ) (b : Bool) → at ≡ 0 → PartnersOf r z p → v ≡ int32At z (at + 4) → w ≡ weight table r f (take (count r) p) → b ≡ eqZ v w → b ≡ eqZ (weightIn z) (weight table r f (mappingIn r z))

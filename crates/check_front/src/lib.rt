@@ -75,7 +75,13 @@ pub struct Front {
 }
 
 // The items 1 to 12, then 20 to 22.
-pub fn check_front(table: &[u8], recorded: &[u8], found: &[u8], certificate: &[u8], at: usize) -> Front
+pub fn check_front(
+    table: &[u8],
+    recorded: &[u8],
+    found: &[u8],
+    certificate: &[u8],
+    at: usize,
+) -> Front
     requires { ⌜ at ≡ 0 ⌝ }
     ensures { λ r. ⌜ FrontChecked (now (table .entry)) (now (recorded .entry)) (now (found .entry)) (now (certificate .entry)) (r .refusal) (r .next) ⌝ }
 {

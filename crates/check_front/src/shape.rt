@@ -95,7 +95,17 @@ fn record_marked(
     requires { ⌜ k < subproblems (now recorded) (now found) ⌝ }
     ensures { λ r. ⌜ r ≡ isMark (now (z .entry)) (recordAt (now (recorded .entry)) (now (found .entry)) k) recordMark ⌝ }
 {
-    let p = place_of(recorded, found, fnear, order, starts, begins, sizes, sums, k);
+    let p = place_of(
+        recorded,
+        found,
+        fnear,
+        order,
+        starts,
+        begins,
+        sizes,
+        sums,
+        k,
+    );
     let at = p.at;
     is_record(z, at)
 }
@@ -120,7 +130,18 @@ fn records_marked(
     let mut ok = true;
     let mut k: usize = 0;
     while k < all {
-        let here = record_marked(recorded, found, fnear, order, starts, begins, sizes, sums, z, k);
+        let here = record_marked(
+            recorded,
+            found,
+            fnear,
+            order,
+            starts,
+            begins,
+            sizes,
+            sums,
+            z,
+            k,
+        );
         ok = ok & here;
         k += 1;
     }

@@ -52,7 +52,17 @@ pub fn mapping_item(
 {
     let n = vertex_count(recorded);
     let p = partners(z, at + 8, n);
-    let ok = mapping_ok(table, recorded, found, rnear, rlabels, fnear, flabels, place, &p);
+    let ok = mapping_ok(
+        table,
+        recorded,
+        found,
+        rnear,
+        rlabels,
+        fnear,
+        flabels,
+        place,
+        &p,
+    );
     if !ok {
         return 21;
     }

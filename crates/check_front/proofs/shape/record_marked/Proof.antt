@@ -1,8 +1,4 @@
 -- `record_marked` meets its contract: the record begins inside the certificate. Assumes nothing.
-use mathlib.Core.Path.{_≡_, ap, _∙_}
-use borrow.Author.Needs.{needs}
-use Rattle.model.specs.Bytes.{isMark}
-use Rattle.model.specs.Certificate.{recordMark}
 use Rattle.records.specs.Places.{ready-inputs}
 use Rattle.check_front.specs.Steps.{mark-inside}
 use Rattle.check_front.proofs.shape.record_marked.Statement.{statement}

@@ -1,6 +1,6 @@
 -- `records_marked` meets its contract: the test is gathered over the subproblems. Assumes nothing.
 use Prim.Native.Nat.{_≤_, _-_}
-use mathlib.Core.Path.{_≡_, refl, sym, _∙_}
+use mathlib.Core.Path.{_≡_, refl}
 use native.Mathlib.Omega.{arith}
 use borrow.Author.Needs.{needs}
 use Rattle.foundations.specs.Lists.{every, every-step, every-end}

@@ -1,20 +1,15 @@
 -- `mapping_item` meets its contract: the partner bytes are the certificate's mapping, and a mapping by the quick test is weighed. Assumes nothing.
-use mathlib.Core.Path.{_≡_, refl, sym, ap, _∙_, subst}
-use mathlib.Core.Bool.{Bool}
-use mathlib.Core.List.{List}
-use Prim.Native.Nat.{ℕ, _≤_}
+use mathlib.Core.Path.{_≡_, sym, ap, _∙_, subst}
+use Prim.Native.Nat.{_≤_}
 use native.Mathlib.Omega.{arith}
 use borrow.Author.Needs.{needs}
-use lib.ListN.{length, take}
-use lib.IntN.{ℤ}
-use mir.Syntax.{w32}
-use mir.Val.{toZ, ofZ}
+use lib.ListN.{length}
 use Rattle.foundations.specs.Tests.{passed}
 use Rattle.foundations.specs.Machine.{back}
 use Rattle.model.specs.Tree.{count}
 use Rattle.model.specs.Mapping.{IsMapping, mappingOk, weight}
 use Rattle.model.specs.Certificate.{mappingIn, weightIn, eqZ}
-use Rattle.trees.specs.Accepted.{Whole, Ends}
+use Rattle.trees.specs.Accepted.{Ends}
 use Rattle.formats.specs.Inputs.{input-accepted}
 use Rattle.subtrees.specs.Theorems.{quick-mapping}
 use Rattle.check_front.specs.Steps.{PartnersOf, partners-of, partners-inside, weights-compared, item-21, item-22, item-none}
