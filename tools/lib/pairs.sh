@@ -1,6 +1,6 @@
 # Read in by tools/listing and tools/picture, which give it their arguments PLANT [ANSWER]. Runs tools/plant, and the match program where no answer
 # is given. Then `pairs PROGRAM` runs tools/lib/pairs.awk with PROGRAM, the awk functions of the tool, over the plant and the answer.
-# If the plant is refused, `refused` holds the number, `sentence` what the paper says.
+# If the plant is refused, `refusal` holds the number, what the paper says, and the line of the text where the fault is.
 set -u
 root=$(cd "$(dirname "$0")/.." && pwd)
 self=$(basename "$0")
@@ -52,8 +52,10 @@ else
     cat -- "$answer" > "$work/answer"
 fi
 refused=$(sed -n '1s/^refused \([0-9][0-9]*\)$/\1/p' "$work/answer")
-sentence=
-[ -z "$refused" ] || sentence=$(item "$refused")
+refusal=
+if [ -n "$refused" ]; then
+    refusal=$(echo "refused $refused: $(item "$refused")"; LC_ALL=C awk -v name="$plant" -v item="$refused" -f "$root/tools/lib/where.awk" "$work/text")
+fi
 
 pairs() {
     {
