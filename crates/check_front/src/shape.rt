@@ -175,7 +175,7 @@ pub fn shape_ok(
     let partners = partners_marked(z, at + 8, n);
     let sums = square_sums(found, starts);
     let sizes = record_sizes(recorded, rnear, rlabels, order, place);
-    let begins = row_begins(recorded, found, &sizes, &sums);
+    let begins = row_begins(recorded, found, &sizes, &sums, at + 8 + 3 * n);
     let records = records_marked(
         recorded,
         found,

@@ -1,9 +1,11 @@
 -- `shape_ok` meets its contract: the right length puts every mark inside. Assumes nothing.
-use mathlib.Core.Path.{_≡_, sym, _∙_}
+use mathlib.Core.Path.{_≡_, refl, sym, _∙_}
+use Prim.Native.Nat.{_≤_}
 use native.Mathlib.Omega.{arith}
 use borrow.Author.Needs.{needs}
 use lib.ListN.{length}
 use Rattle.model.specs.Certificate.{certificateLength}
+use Rattle.model.specs.Tree.{count}
 use Rattle.records.specs.Places.{Inputs, ready-inputs, ready-offsets, ready-laid, inputs-recorded, inputs-found, sound-whole}
 use Rattle.check_front.specs.Steps.{partners-inside, shape-short, shape-whole}
 use Rattle.check_front.proofs.shape.shape_ok.Statement.{statement}
@@ -57,11 +59,28 @@ square-sums-requires c κs = let s = start (c .before .before) in (inputs-found 
 record-sizes-requires : tie.Need-record-sizes-requires
 record-sizes-requires c κs = let s = start (c .before .before .before) in (inputs-recorded (inputs s), s .pre .0 .ready .recorded)
 
+-- where the records begin, and that n is small
+module _ (c : tie.After-sums) where
+  abbrev tested : tie.Else1
+  tested = c .before .before .before .before .before .before
+
+  first : (start tested .args .at ≡ 0) × (tested .before .before .before .vertex-count .result ≡ count (start tested .args .recorded .now)) × (count (start tested .args .recorded .now) ≤ 64)
+  first = (start tested .pre .1, tested .before .before .before .vertex-count .ensures, inputs-recorded (inputs (start tested)) .passed .ends .few)
+
+add-row-begins : tie.Need-add-row-begins
+add-row-begins c = omega (arith, first c .0)
+
+mul-row-begins : tie.Need-mul-row-begins
+mul-row-begins c = omega (arith, first c .1, first c .2)
+
+add-row-begins-2 : tie.Need-add-row-begins-2
+add-row-begins-2 c = omega (arith, first c .0, first c .1, first c .2)
+
 row-begins-requires : tie.Need-row-begins-requires
 row-begins-requires c κs =
     let z = c .before .before in
     let q = z .before in
-    (inputs (start (q .before .before .before)), (z .record-sizes .ensures, q .square-sums .ensures))
+    (inputs (start (q .before .before .before)), (z .record-sizes .ensures, (q .square-sums .ensures, rw (first c .0, first c .1) refl)))
 
 records-marked-requires : tie.Need-records-marked-requires
 records-marked-requires c κs =
@@ -90,6 +109,9 @@ shape-ok-spec =
     partners-marked-requires
     square-sums-requires
     record-sizes-requires
+    add-row-begins
+    mul-row-begins
+    add-row-begins-2
     row-begins-requires
     records-marked-requires
     returns-2)
