@@ -36,7 +36,7 @@ struct pensummer_match_result {
     int32_t weight;
 };
 
-/* A job's state. It belongs to the caller, who lends it to each call. */
+/* A job's state. It belongs to the caller, who lends it to each call. `idle` is true or false: no other byte may stand there. */
 struct pensummer_job {
     bool idle;
     uint32_t n, m, position, total;

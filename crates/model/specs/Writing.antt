@@ -3,7 +3,7 @@
 use mathlib.Core.Path.{_≡_}
 use mathlib.Core.Logic.{_≢_}
 use mathlib.Core.List.{List, [], _∷_, _++_}
-use Prim.Native.Nat.{ℕ}
+use Prim.Native.Nat.{ℕ, _<_}
 use lib.ListN.{length, take, drop}
 use lib.Dec.{ltb}
 use lib.IntN.{ℤ}
@@ -11,9 +11,10 @@ use Rattle.model.specs.declared.WriteAnswer.{WriteAnswer}
 use Rattle.model.specs.declared.WriteAnswer.the-variants.{Written, Refused}
 use Rattle.model.specs.Refusals.{Item, item, firstOf}
 use Rattle.model.specs.Order.{subproblems}
-use Rattle.model.specs.Values.{values}
+use Rattle.model.specs.Mapping.{Heaviest}
+use Rattle.model.specs.Values.{values, valueAt, answer}
 use Rattle.model.specs.Calls.{inputItems, workItem}
-use Rattle.model.specs.Certificate.{certificateLength, checkOf}
+use Rattle.model.specs.Certificate.{certificateLength, weightIn, mappingIn, valueIn, checkOf}
 
 -- 19: the certificate's buffer is shorter than the certificate
 abbrev pub roomItem : List ℕ → List ℕ → List ℕ → Item
@@ -35,20 +36,24 @@ unfoldable pub lengthOf : WriteAnswer → ℕ
 lengthOf (Written l) = l
 lengthOf (Refused k) = 0
 
--- Not turned down: all values in order and the rest of the work numbers as it was; in the front of the buffer a certificate that the check accepts, and
--- the rest of the buffer as it was; its length. Which heaviest mapping and which duals is the program's choice.
+-- Not turned down: all values in order and the rest of the work numbers as it was; in the front of the buffer a certificate that the check accepts, with
+-- a heaviest mapping, its weight and the value of each subproblem, and the rest of the buffer as it was; its length. Which heaviest mapping and which
+-- duals is the program's choice.
 pub record CertificateLeft (table recorded found : List ℕ) (work : List ℤ) (certificate : List ℕ) (work′ : List ℤ) (certificate′ : List ℕ) (a : WriteAnswer) : Type 0 where
   pub values-left : work′ ≡ values table recorded found ++ drop (subproblems recorded found) work
   pub rest : certificate′ ≡ take (certificateLength recorded found) certificate′ ++ drop (certificateLength recorded found) certificate
   pub accepted : checkOf table recorded found (take (certificateLength recorded found) certificate′) ≡ 0
+  pub values-in : (k : ℕ) → k < subproblems recorded found → valueIn recorded found (take (certificateLength recorded found) certificate′) k ≡ valueAt table recorded found k
+  pub weight-in : weightIn (take (certificateLength recorded found) certificate′) ≡ answer table recorded found
+  pub heaviest-in : Heaviest table recorded found (mappingIn recorded (take (certificateLength recorded found) certificate′))
   pub given : a ≡ Written (certificateLength recorded found)
   pub number : writeRefusal a ≡ 0
   pub measures : lengthOf a ≡ certificateLength recorded found
 
 -- Turned down: the number of the first item that applies, and nothing changed.
-pub record WritingTurnedDown (item : ℕ) (work : List ℤ) (certificate : List ℕ) (work′ : List ℤ) (certificate′ : List ℕ) (a : WriteAnswer) : Type 0 where
-  pub given : a ≡ Refused item
-  pub number : writeRefusal a ≡ item
+pub record WritingTurnedDown (refusal : ℕ) (work : List ℤ) (certificate : List ℕ) (work′ : List ℤ) (certificate′ : List ℕ) (a : WriteAnswer) : Type 0 where
+  pub given : a ≡ Refused refusal
+  pub number : writeRefusal a ≡ refusal
   pub measures : lengthOf a ≡ 0
   pub work-kept : work′ ≡ work
   pub certificate-kept : certificate′ ≡ certificate
