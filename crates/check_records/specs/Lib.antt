@@ -1,0 +1,2 @@
+-- Laws of the check of a certificate's records.
+pub mod Numbers
