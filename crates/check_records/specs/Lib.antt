@@ -1,2 +1,3 @@
 -- Laws of the check of a certificate's records.
 pub mod Numbers
+pub mod Cover

@@ -1,2 +1,3 @@
 //! The certificate's check, items 23 and 24: the rules of the subproblems' records, and the greatest value with s = v.
+pub mod cover;
 pub mod numbers;
