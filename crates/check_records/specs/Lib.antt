@@ -2,3 +2,4 @@
 pub mod Numbers
 pub mod Cover
 pub mod Rules
+pub mod Gains
