@@ -3,3 +3,4 @@ pub mod Numbers
 pub mod Cover
 pub mod Rules
 pub mod Gains
+pub mod Records

@@ -60,6 +60,9 @@ pub others-less : (d q : ℕ) → q ≢ 0 → d - 1 ≡ othersOf d q
 unfolding othersOf
 others-less d q n = rw (ne-eqb q 0 n)
 
+pub others-few : (d q : ℕ) → othersOf d q ≤ d
+others-few d q = ⊎-elim (λ e. rw (← others-all d q e) (omega arith)) (λ n. rw (← others-less d q n) (omega arith)) (same? q 0)
+
 -- s is the q-th choice for v
 pub record OthersAt (f : List ℕ) (v q s : ℕ) : Type 0 where
   pub long : length (others f v s) ≡ othersOf (length (neighbours f v)) q

@@ -2,3 +2,4 @@
 pub mod cover;
 pub mod gains;
 pub mod numbers;
+pub mod record;
