@@ -12,7 +12,7 @@ ghost use Rattle.model.specs.Certificate.{eqZ};
 ghost use Rattle.check_records.specs.Numbers.{Within, notNegative, isNought, NumbersIn};
 
 // The greater of 0 and x.
-fn above_zero(x: i32) -> u64
+pub fn above_zero(x: i32) -> u64
     ensures { λ r. ⌜ (r ≡ up x) × (r < 2147483648) ⌝ }
 {
     if x <= 0 { 0 } else { x as u64 }
