@@ -27,6 +27,11 @@ pub front-sized : {table r f z : List ℕ} {next : ℕ} → FrontPassed table r 
 unfolding shapeOk
 front-sized {table} {r} {f} {z} p = record { long = eqb-true (length z) (certificateLength r f) (and-split (eqb (length z) (certificateLength r f)) _ (p .shaped) .0) }
 
+-- so the head is there
+pub sized-head : {r f z : List ℕ} → Sized r f z → 4 + 4 ≤ length z
+unfolding certificateLength
+sized-head S = omega (arith, S .long)
+
 -- a natural number as a sum
 pub zero-sum : (x y : ℤ) (w : ℕ) → y ≡ pos w → eqZ x (pos 0 +ℤ pos w) ≡ eqZ x y
 zero-sum x y w e = let s : pos 0 +ℤ pos w ≡ y = omega int in ap (eqZ x) s
