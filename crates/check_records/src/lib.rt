@@ -18,19 +18,22 @@ use solver::plan::edge_weights;
 use solver::plan::starts;
 use trees::places;
 use trees::postorder;
+ghost use Prim.Native.Nat.{_+_, _*_};
 ghost use mathlib.Core.Path.{_≡_};
 ghost use Rattle.model.specs.Certificate.{checkOf};
+ghost use Rattle.model.specs.Tree.{count};
 ghost use Rattle.solver.specs.Plan.{Ready};
 ghost use Rattle.check_front.specs.Front.{FrontPassed, FrontChecked};
 ghost use Rattle.check_records.specs.Items.{recordsItem};
 ghost use Rattle.check_records.specs.Gains.{Sized};
 
-// The first of the items 23 and 24 that applies, 0 for none.
+// The first of the items 23 and 24 that applies, 0 for none. The records begin at `at`.
 fn records_item(
     table: &[u8],
     recorded: &[u8],
     found: &[u8],
     certificate: &[u8],
+    at: usize,
     weights: &[i32; 64],
     rnear: &[[u8; 8]; 64],
     rlabels: &[[u8; 8]; 64],
@@ -42,11 +45,12 @@ fn records_item(
 ) -> u32
     requires { ⌜ Ready (now table) (now recorded) (now found) (now weights) (now rnear) (now rlabels) (now fnear) (now flabels) (now order) (now place) (now starts) ⌝ }
     requires { ⌜ Sized (now recorded) (now found) (now certificate) ⌝ }
+    requires { ⌜ at ≡ 8 + 3 * count (now recorded) ⌝ }
     ensures { λ r. ⌜ r ≡ recordsItem (now (table .entry)) (now (recorded .entry)) (now (found .entry)) (now (certificate .entry)) ⌝ }
 {
     let sums = square_sums(found, starts);
     let sizes = record_sizes(recorded, rnear, rlabels, order, place);
-    let begins = row_begins(recorded, found, &sizes, &sums);
+    let begins = row_begins(recorded, found, &sizes, &sums, at);
     let ok = records_ok(
         table,
         recorded,
@@ -113,6 +117,7 @@ pub fn check_records(
         recorded,
         found,
         certificate,
+        at,
         &weights,
         &rnear,
         &rlabels,

@@ -62,7 +62,7 @@ records-item-requires c κs =
     let l1 = n2 .before in
     let n1 = l1 .before .before in
     let w = n1 .before in
-    (ready _ _ _ (passed (w .before) .input) _ _ _ _ _ _ _ _ _ (w .edge-weights .ensures) (n1 .neighbour-table .ensures) (l1 .edge-label-table .ensures) (n2 .neighbour-table2 .ensures) (l2 .edge-label-table2 .ensures) (o .postorder .ensures) (p .places .ensures) (t .starts .ensures), front-sized (passed (w .before)))
+    (ready _ _ _ (passed (w .before) .input) _ _ _ _ _ _ _ _ _ (w .edge-weights .ensures) (n1 .neighbour-table .ensures) (l1 .edge-label-table .ensures) (n2 .neighbour-table2 .ensures) (l2 .edge-label-table2 .ensures) (o .postorder .ensures) (p .places .ensures) (t .starts .ensures), (front-sized (passed (w .before)), passed (w .before) .begins))
 
 returns-2 : tie.Need-returns-2
 returns-2 c =

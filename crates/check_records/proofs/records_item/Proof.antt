@@ -34,20 +34,20 @@ record-sizes-requires : tie.Need-record-sizes-requires
 record-sizes-requires c κs = let p = c .before .before .before .before .before .pre in (ready-recorded (p .0), p .0 .recorded)
 
 row-begins-requires : tie.Need-row-begins-requires
-row-begins-requires c κs = let p = c .before .before .before .before .before .before .before .before .pre in (ready-inputs (p .0), (c .before .before .record-sizes .ensures, c .before .before .before .square-sums .ensures))
+row-begins-requires c κs = let p = c .before .before .before .before .before .before .before .before .pre in (ready-inputs (p .0), (c .before .before .record-sizes .ensures, (c .before .before .before .square-sums .ensures, p .1 .1)))
 
 records-ok-requires : tie.Need-records-ok-requires
-records-ok-requires c κs = let p = c .before .before .before .before .before .before .before .before .before .before .before .before .pre in (p .0, (c .before .before .before .row-begins .ensures, p .1))
+records-ok-requires c κs = let p = c .before .before .before .before .before .before .before .before .before .before .before .before .pre in (p .0, (c .before .before .before .row-begins .ensures, p .1 .0))
 
 returns : tie.Need-returns
 unfolding recordsItem
 returns c = cond-no _ (c .before .records-ok .result) _ 23 (c .before .records-ok .ensures) (c .if1 .taken)
 
 greatest-requires : tie.Need-greatest-requires
-greatest-requires c κs = let p = c .before .before .before .before .before .before .before .before .before .before .before .before .before .before .before .before .before .pre in (ready-standing (p .0) (c .before .before .before .before .before .before .before .before .row-begins .ensures), (p .1, record { get = p .0 .recorded .placed }))
+greatest-requires c κs = let p = c .before .before .before .before .before .before .before .before .before .before .before .before .before .before .before .before .before .pre in (ready-standing (p .0) (c .before .before .before .before .before .before .before .before .row-begins .ensures), (p .1 .0, record { get = p .0 .recorded .placed }))
 
 int32-at-requires : tie.Need-int32-at-requires
-int32-at-requires c κs = sized-head (c .before .before .before .before .before .before .before .before .before .before .before .before .before .before .before .before .before .before .pre .1)
+int32-at-requires c κs = sized-head (c .before .before .before .before .before .before .before .before .before .before .before .before .before .before .before .before .before .before .pre .1 .0)
 
 is-sum-requires : tie.Need-is-sum-requires
 is-sum-requires c κs = omega (arith, top (c .before) .1)
