@@ -1,4 +1,6 @@
 //! The C interface: what a C or Rust program calls, as numbers, slices and plain structs. The work is done in the other crates.
+pub mod job_calls;
+
 use model::MatchAnswer;
 ghost use mathlib.Core.Path.{_≡_};
 ghost use Rattle.model.specs.Match.{refusalOf, weightOf};
@@ -39,4 +41,11 @@ pub extern "C" fn pensummer_match(
 {
     let a = one_call::match_trees(table, recorded, found, work, mapping);
     numbers(a)
+}
+
+// A written certificate as two numbers: the item that turned the call down, 0 for none, and its length in bytes.
+#[repr(C)]
+pub struct WriteResult {
+    pub refusal: u32,
+    pub length: u32,
 }
