@@ -1,0 +1,14 @@
+-- `is_nought` meets its contract. Assumes nothing.
+use Rattle.model.specs.Certificate.{eqZ}
+use Rattle.foundations.specs.Machine.{machine}
+use borrow.Author.Needs.{needs}
+use native.Mathlib.Omega.{arith}
+use Rattle.check_records.proofs.numbers.is_nought.Statement.{statement}
+use Rattle.check_records.proofs.numbers.is_nought.Tie as tie
+
+returns : tie.Need-returns
+unfolding eqZ
+returns c = simp (machine, c .fits .x)
+
+pub is-nought-spec : {M : Type 1} → statement M
+is-nought-spec = tie.close (tie.spec returns)

@@ -1,0 +1,8 @@
+-- Laws of the check of a certificate's records.
+pub mod Numbers
+pub mod Cover
+pub mod Rules
+pub mod Gains
+pub mod Records
+pub mod Greatest
+pub mod Items
