@@ -108,6 +108,6 @@ module _ {r f starts begins sizes sums : List ℕ} (S : Standing r f starts begi
   greatest-all z w G = (
     ap num (greatest-ext (vertices r) _ _ _ _
         (λ u tu. greatest-ext (vertices f) _ _ _ _ (λ v tv. sym (values-recalled r f z u v v (own-low u v (mem-below (λ y. true) (count r) u tu .0) (mem-below (λ y. true) (count f) v tv .0)))) refl) refl)
-    ∙ top-largest r f (valuesIn r f z) (count r) w (G .u) (G .v) (G .top) refl,
+        ∙ top-largest r f (valuesIn r f z) (count r) w (G .u) (G .v) (G .top) refl,
     G .top .fits,
   )

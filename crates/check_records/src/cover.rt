@@ -41,7 +41,14 @@ fn row_covered(g: &[u64; 64], i: usize, y: u64, across: &[u64; 8], l: usize, q: 
 }
 
 // The gains of all k children are.
-fn all_covered(g: &[u64; 64], below: &[u64; 8], across: &[u64; 8], k: usize, l: usize, q: usize) -> bool
+fn all_covered(
+    g: &[u64; 64],
+    below: &[u64; 8],
+    across: &[u64; 8],
+    k: usize,
+    l: usize,
+    q: usize,
+) -> bool
     requires { ⌜ AllCover (now below) (now across) k l q ⌝ }
     ensures { λ r. ⌜ r ≡ every (rowCovered (now (g .entry)) (now (below .entry)) (now (across .entry)) l q) k ⌝ }
 {

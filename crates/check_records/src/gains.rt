@@ -55,7 +55,18 @@ fn branch_gain(
     requires { ⌜ edge < 64 ⌝ }
     ensures { λ r. ⌜ GainIn (now (recorded .entry)) (now (found .entry)) (now (certificate .entry)) (now (weights .entry)) edge row b r ⌝ }
 {
-    let value = value_in(recorded, found, certificate, begins, sizes, sums, starts, row, x, b);
+    let value = value_in(
+        recorded,
+        found,
+        certificate,
+        begins,
+        sizes,
+        sums,
+        starts,
+        row,
+        x,
+        b,
+    );
     gain_of(weights[edge], value)
 }
 

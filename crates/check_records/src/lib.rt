@@ -67,7 +67,16 @@ fn records_item(
     if !ok {
         return 23;
     }
-    let top = greatest(recorded, found, certificate, &begins, &sizes, &sums, starts, place);
+    let top = greatest(
+        recorded,
+        found,
+        certificate,
+        &begins,
+        &sizes,
+        &sums,
+        starts,
+        place,
+    );
     let same = is_sum(int32_at(certificate, 4), 0, top);
     if !same {
         return 24;

@@ -112,7 +112,17 @@ fn record_ok(
     requires { ⌜ k < subproblems (now recorded) (now found) ⌝ }
     ensures { λ r. ⌜ r ≡ subproblemOk (now (table .entry)) (now (recorded .entry)) (now (found .entry)) (now (certificate .entry)) k ⌝ }
 {
-    let p = place_of(recorded, found, fnear, order, starts, begins, sizes, sums, k);
+    let p = place_of(
+        recorded,
+        found,
+        fnear,
+        order,
+        starts,
+        begins,
+        sizes,
+        sums,
+        k,
+    );
     let u = p.u;
     let v = p.v;
     let q = p.q;

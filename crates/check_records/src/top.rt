@@ -39,7 +39,18 @@ fn top_of_row(
     let mut top = t;
     let mut v: u8 = 0;
     while (v as usize) < m {
-        let x = above_zero(value_in(recorded, found, certificate, begins, sizes, sums, starts, row, v, starts[v as usize]));
+        let x = above_zero(value_in(
+            recorded,
+            found,
+            certificate,
+            begins,
+            sizes,
+            sums,
+            starts,
+            row,
+            v,
+            starts[v as usize],
+        ));
         let next = greater(top, x);
         top = next;
         v += 1;
@@ -68,7 +79,19 @@ pub fn greatest(
     let mut top: u64 = 0;
     let mut u: u8 = 0;
     while (u as usize) < n {
-        let next = top_of_row(recorded, found, certificate, begins, sizes, sums, starts, place, u, m, top);
+        let next = top_of_row(
+            recorded,
+            found,
+            certificate,
+            begins,
+            sizes,
+            sums,
+            starts,
+            place,
+            u,
+            m,
+            top,
+        );
         top = next;
         u += 1;
     }
