@@ -1,4 +1,5 @@
--- What a caller of the exported match may conclude from its two numbers. Assumes nothing.
+-- What a caller of the exported match and of the exported finish may conclude from its two numbers. Of a start and an advance the contracts say the
+-- definitions themselves, and `start-refusal`, `advance-refusal` and `advance-count` (crates/jobs) what the numbers are. Assumes nothing.
 use mathlib.Core.Path.{_≡_, sym, ap, _∙_}
 use mathlib.Core.Logic.{_≢_, ⊎-elim}
 use mathlib.Core.List.{List}
@@ -6,11 +7,15 @@ use Prim.Native.Nat.{ℕ}
 use lib.ListN.{take}
 use lib.IntN.{ℤ, pos}
 use Rattle.foundations.specs.Tests.{same?}
+use Rattle.model.specs.declared.JobRecord.{JobRecord}
 use Rattle.model.specs.Tree.{count}
+use Rattle.model.specs.Order.{subproblems}
 use Rattle.model.specs.Calls.{matchItem}
-use Rattle.model.specs.Mapping.{Heaviest, weight}
+use Rattle.model.specs.Mapping.{IsMapping, Heaviest, weight}
+use Rattle.model.specs.Values.{values}
 use Rattle.model.specs.Match.{weightOf}
-use Rattle.exports.specs.Exported.{Exported}
+use Rattle.model.specs.Jobs.{finishItem}
+use Rattle.exports.specs.Exported.{Exported, Finishes}
 
 module _ (table r f : List ℕ) (work : List ℤ) (mapping : List ℕ) (work′ : List ℤ) (mapping′ : List ℕ) (refusal : ℕ) (w : ℤ) (e : Exported table r f work mapping work′ mapping′ refusal w) where
   -- the first number is the first item that applies, 0 for none
@@ -31,3 +36,24 @@ module _ (table r f : List ℕ) (work : List ℤ) (mapping : List ℕ) (work′ 
   heaviest-left z =
       let m = e .call .matched (sym refusal-is ∙ z) in
       (m .heaviest, e .weighs ∙ m .weighs ∙ sym (m .exact))
+
+module _ (j : JobRecord) (table r f : List ℕ) (work : List ℤ) (mapping mapping′ : List ℕ) (refusal : ℕ) (w : ℤ) (e : Finishes j table r f work mapping mapping′ refusal w) where
+  -- the first number is the first item that applies, 0 for none
+  pub finish-refusal-is : refusal ≡ finishItem j table r f work mapping
+  finish-refusal-is =
+      let i = finishItem j table r f work mapping in
+      e .number ∙ ⊎-elim (λ z. e .call .finished z .number ∙ sym z) (λ n. e .call .refused n .number) (same? i 0)
+
+  -- where it is not 0, the second is 0 and nothing has changed
+  pub finish-refused-keeps : refusal ≢ 0 → (w ≡ pos 0) × (mapping′ ≡ mapping)
+  unfolding weightOf
+  finish-refused-keeps n =
+      let t = e .call .refused (λ z. n (finish-refusal-is ∙ z)) in
+      (e .weighs ∙ ap weightOf (t .given), t .mapping-kept)
+
+  -- where it is 0, a mapping is left, the second is its weight, and it is a heaviest one where the work numbers are the values
+  pub mapping-left : refusal ≡ 0
+      → IsMapping table r f (take (count r) mapping′) × (w ≡ weight table r f (take (count r) mapping′)) × (take (subproblems r f) work ≡ values table r f → Heaviest table r f (take (count r) mapping′))
+  mapping-left z =
+      let m = e .call .finished (sym finish-refusal-is ∙ z) in
+      (m .legal, e .weighs ∙ m .weighs, m .heaviest)
