@@ -1,0 +1,3 @@
+-- What storing the parts of a certificate leaves.
+pub mod Kept
+pub mod Puts
