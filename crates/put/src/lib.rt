@@ -1,4 +1,6 @@
 //! Storing the parts of a certificate: marks, numbers, rows of duals, and the bytes of one record.
+pub mod front;
+
 use integers::encode;
 ghost use Prim.Native.Nat.{_+_, _*_, _≤_};
 ghost use mathlib.Core.Path.{_≡_};
