@@ -25,12 +25,12 @@ use Rattle.formats.specs.Inputs.{input-accepted}
 use Rattle.subtrees.specs.Accepted.{recorded-tree, found-tree}
 use Rattle.subtrees.specs.Trees.{IsTree, joined-swap, joined-mem, up-joined}
 
-record-sum : (r f : List ℕ) (k : ℕ) → recordAt r f k ≡ 8 + 3 * count r + sum k (recordLength r f)
+pub record-sum : (r f : List ℕ) (k : ℕ) → recordAt r f k ≡ 8 + 3 * count r + sum k (recordLength r f)
 unfolding recordAt sum
 record-sum r f zero = omega arith
 record-sum r f (suc k) = rw (record-sum r f k) (omega arith)
 
-record-up : (r f : List ℕ) (k n : ℕ) → k < n → recordAt r f k + recordLength r f k ≤ recordAt r f n
+pub record-up : (r f : List ℕ) (k n : ℕ) → k < n → recordAt r f k + recordLength r f k ≤ recordAt r f n
 unfolding recordAt
 record-up r f k zero h = absurd (omega arith)
 record-up r f k (suc n) h = ⊎-elim (λ e. rw e (omega arith)) (λ q. let p = record-up r f k n (omega arith) in omega arith) (same? k n)
@@ -94,7 +94,7 @@ module _ (s : List ℕ) (t : IsTree s) where
 
 module _ (r f : List ℕ) (tr : IsTree r) (tf : IsTree f) where
   -- record i * (3m - 2) + (offset of v) + j has the i-th vertex in postorder, v, and the j-th choice for v
-  record-row : (i v j : ℕ) → i < count r → v < count f → j < length (choices f v) →
+  pub record-row : (i v j : ℕ) → i < count r → v < count f → j < length (choices f v) →
       recordLength r f (i * width f + (offset f v + j)) ≡ (6 + 4 * length (children r (getD (postorder r) i 0))) + 4 * length (others f v (getD (choices f v) j 0))
   unfolding recordLength index
   record-row i v j li lv lj =
@@ -114,7 +114,7 @@ module _ (r f : List ℕ) (tr : IsTree r) (tf : IsTree f) where
       same-length a b c = rw (a, b, c)
 
   -- the records of one u
-  row-sum : (i : ℕ) → i < count r → (v : ℕ) → v ≤ count f → sum (offset f v) (λ j. recordLength r f (i * width f + j)) ≡ offset f v * (6 + 4 * length (children r (getD (postorder r) i 0))) + 4 * squares f v
+  pub row-sum : (i : ℕ) → i < count r → (v : ℕ) → v ≤ count f → sum (offset f v) (λ j. recordLength r f (i * width f + j)) ≡ offset f v * (6 + 4 * length (children r (getD (postorder r) i 0))) + 4 * squares f v
   unfolding offset squares
   row-sum i li zero h = unfold sum in omega arith
   row-sum i li (suc v) h =
@@ -213,7 +213,7 @@ module _ (f : List ℕ) (t : IsTree f) (few : (v : ℕ) → v < count f → leng
   so-far two zero h = even 0 (omega arith) (omega arith)
   so-far two (suc v) h = so-far-step v (offset f v) (squares f v) (length (neighbours f v)) (spread (length (neighbours f v)) (some-neighbour f t two v (omega arith)) (few v (omega arith))) (so-far two v (omega arith))
 
-  squares-most : squares f (count f) ≤ 616
+  pub squares-most : squares f (count f) ≤ 616
   squares-most = pick (less? 1 (count f))
     where
       w : offset f (count f) ≡ 3 * count f - 2

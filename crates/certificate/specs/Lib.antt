@@ -3,3 +3,4 @@ pub mod Rules
 pub mod Items
 pub mod Sound
 pub mod Length
+pub mod Places

@@ -1,2 +1,3 @@
 -- Where a certificate's records stand, as the arrays of a call hold it.
 pub mod Rows
+pub mod Places
