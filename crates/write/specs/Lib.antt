@@ -1,0 +1,4 @@
+-- What writing a certificate leaves.
+pub mod Others
+pub mod Frames
+pub mod Items
