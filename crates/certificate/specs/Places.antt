@@ -1,5 +1,5 @@
 -- Where the record of a subproblem begins, from the row of its recorded vertex, its found vertex and its choice. Assumes nothing.
-use mathlib.Core.Path.{_≡_, refl, sym, ap, _∙_, subst}
+use mathlib.Core.Path.{_≡_, refl, ap, _∙_, subst}
 use mathlib.Core.Logic.{⊎-elim}
 use mathlib.Core.List.{List}
 use Prim.Native.Nat.{ℕ, zero, suc, _+_, _*_, _-_, _≤_, _<_}
@@ -21,7 +21,7 @@ use Rattle.trees.specs.Rooted.{no-self}
 use Rattle.formats.specs.Inputs.{input-accepted}
 use Rattle.subtrees.specs.Accepted.{recorded-tree, found-tree}
 use Rattle.subtrees.specs.Trees.{IsTree}
-use Rattle.certificate.specs.Length.{record-sum, record-up, record-row, row-sum, squares-most, length-closed, record-inside, length-most}
+use Rattle.certificate.specs.Length.{record-sum, record-row, row-sum, squares-most, length-closed, record-inside, length-most}
 
 -- the neighbours other than s, summed over the first q choices of s for a vertex of degree d: all d for the first, one fewer for each other
 unfoldable pub othersBefore : ℕ → ℕ → ℕ
