@@ -1,4 +1,5 @@
 -- What writing a certificate leaves.
 pub mod Others
 pub mod Frames
+pub mod Records
 pub mod Items

@@ -47,6 +47,11 @@ unfolding othersOf
 one-fewer d zero h = absurd (h refl)
 one-fewer d (suc q) h = refl
 
+pub others-few : (d q : ℕ) → othersOf d q ≤ d
+unfolding othersOf
+others-few d zero = omega arith
+others-few d (suc q) = omega arith
+
 pub column-low : (skip j : ℕ) → j < skip → column skip j ≡ j
 unfolding column
 column-low skip j h = rw (lt-ltb j skip h)
