@@ -22,6 +22,13 @@ use Rattle.write.specs.Others.{skipOf, OthersAt, column-low}
 pub front-left : {r f : List ℕ} {w : ℤ} {p z z′ : List ℕ} → FrontPut (count r) (count f) w p z z′ → FrontLeft r f z′ p w
 front-left F = record { head = F .head; n-is = F .n-is; m-is = F .m-is; weighs = F .weighs; marks = F .marks; partners = F .partners }
 
+pub front-as : {n m n′ m′ : ℕ} {v w : ℤ} {p z z′ : List ℕ} → n ≡ n′ → m ≡ m′ → v ≡ w → FrontPut n m v p z z′ → FrontPut n′ m′ w p z z′
+front-as {n} {m} {n′} {m′} {v} {w} {p} {z} {z′} a b c F =
+    subst (λ (x : ℕ). FrontPut x m′ w p z z′) a (subst (λ (x : ℕ). FrontPut n x w p z z′) b (subst (λ (x : ℤ). FrontPut n m x p z z′) c F))
+
+pub front-weighs : {r f : List ℕ} {v w : ℤ} {p z : List ℕ} → v ≡ w → FrontLeft r f z p v → FrontLeft r f z p w
+front-weighs e F = record { head = F .head; n-is = F .n-is; m-is = F .m-is; weighs = F .weighs ∙ e; marks = F .marks; partners = F .partners }
+
 pub front-same : {r f : List ℕ} {w : ℤ} {p z z′ : List ℕ} → Alike 0 (8 + 3 * count r) z z′ → FrontLeft r f z p w → FrontLeft r f z′ p w
 front-same A F =
     record {

@@ -3,3 +3,5 @@ pub mod Others
 pub mod Frames
 pub mod Records
 pub mod Items
+pub mod Call
+pub mod Theorems

@@ -154,10 +154,10 @@ pub record RecordsLeft (table r f : List ℕ) (work : List ℤ) (k : ℕ) (z z�
 pub records-none : (table r f : List ℕ) (work : List ℤ) (z : List ℕ) → RecordsLeft table r f work 0 z z
 records-none table r f work z = record { left = λ j h. absurd (not-suc-le-zero h); kept = kept-none _ _ z }
 
-first : (r f : List ℕ) (k : ℕ) → 8 + 3 * count r ≤ recordAt r f k
+pub record-first : (r f : List ℕ) (k : ℕ) → 8 + 3 * count r ≤ recordAt r f k
 unfolding recordAt
-first r f zero = omega arith
-first r f (suc k) = let h = first r f k in omega arith
+record-first r f zero = omega arith
+record-first r f (suc k) = let h = record-first r f k in omega arith
 
 next : (r f : List ℕ) (k : ℕ) → recordAt r f (k + 1) ≡ recordAt r f k + recordLength r f k
 unfolding recordAt
@@ -167,7 +167,7 @@ pub records-more : {table r f : List ℕ} {work : List ℤ} {k : ℕ} {z y x : L
 records-more {table} {r} {f} {work} {k} {z} {y} {x} R O =
     record {
       left = below-more (λ (j : ℕ). RecordLeft table r f work x j) k (λ j h. record-same (kept-alike (O .kept) (record-up r f j k h)) (R .left j h)) (O .left);
-      kept = rw (next r f k) (kept-then (first r f k) (omega arith) (R .kept) (O .kept));
+      kept = rw (next r f k) (kept-then (record-first r f k) (omega arith) (R .kept) (O .kept));
     }
 
 pub records-end : {table r f : List ℕ} {work : List ℤ} {i n : ℕ} {z y : List ℕ} → RecordsLeft table r f work i z y → i ≡ n → RecordsLeft table r f work n z y
