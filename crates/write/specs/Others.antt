@@ -105,9 +105,9 @@ others-at f S v (suc q) s lv lq e =
     let l = neighbours f v in
     let long : length (others f v s) + 1 ≡ length l = rw e (length-del (getD l q 0) l (once-neighbours f v) (getD-mem l q lq)) in
     let low : (j : ℕ) → j < length (others f v s) → column q j < length l = λ j h. ⊎-elim
-        (λ a. let c : column q j ≡ j = column-low q j a in omega arith)
-        (λ a. let c : column q j ≡ j + 1 = column-high q j a in omega arith)
-        (less? j q) in
+    (λ a. let c : column q j ≡ j = column-low q j a in omega arith)
+    (λ a. let c : column q j ≡ j + 1 = column-high q j a in omega arith)
+    (less? j q) in
     record {
       number = omega arith;
       inside = low;

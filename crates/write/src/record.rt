@@ -1,5 +1,6 @@
 //! The records of a certificate: that of one subproblem, and all in order.
 use duals::duals_at;
+use formats::tree::vertex_count;
 use put::put_record;
 use records::degree_of;
 use records::place_of;
@@ -7,7 +8,6 @@ use records::record_sizes;
 use records::row_begins;
 use records::square_sums;
 use solver::subproblem::width_of;
-use formats::tree::vertex_count;
 ghost use mathlib.Core.Path.{_≡_};
 ghost use Prim.Native.Nat.{_≤_, _<_};
 ghost use lib.ListN.{length};
@@ -57,7 +57,17 @@ fn put_one(
     requires { ⌜ k < subproblems (now recorded) (now found) ⌝ }
     ensures { λ _. ⌜ OneLeft (now (table .entry)) (now (recorded .entry)) (now (found .entry)) (now (work .entry)) k (now (certificate .entry)) (now (certificate .exit)) ⌝ }
 {
-    let p = place_of(recorded, found, fnear, order, starts, begins, sizes, sums, k);
+    let p = place_of(
+        recorded,
+        found,
+        fnear,
+        order,
+        starts,
+        begins,
+        sizes,
+        sums,
+        k,
+    );
     let row = p.row;
     let u = p.u;
     let v = p.v;
