@@ -1,9 +1,9 @@
 -- What storing a mark, a number, a row of duals and a record leaves. Assumes nothing.
-use mathlib.Core.Path.{_≡_, refl, sym, ap, _∙_, subst}
-use mathlib.Core.Logic.{_⊎_, inl, inr, ⊎-elim, _≢_}
-use mathlib.Core.Bool.{Bool, true, cond}
+use mathlib.Core.Path.{_≡_, ap, _∙_, subst}
+use mathlib.Core.Logic.{inl, ⊎-elim, _≢_}
+use mathlib.Core.Bool.{true, cond}
 use mathlib.Core.List.{List}
-use Prim.Native.Nat.{ℕ, suc, _+_, _*_, _≤_, _<_}
+use Prim.Native.Nat.{ℕ, _+_, _*_, _≤_, _<_}
 use native.Mathlib.Omega.{arith}
 use native.Mathlib.Nat.{not-suc-le-zero}
 use borrow.Author.Count.{below-more}
@@ -17,7 +17,7 @@ use Rattle.foundations.specs.Tests.{eqb-same}
 use Rattle.model.specs.Bytes.{isMark, int32At, putInt32}
 use Rattle.model.specs.Certificate.{recordMark}
 use Rattle.integers.specs.Laws.{put-length, put-other, read-put}
-use Rattle.put.specs.Kept.{Kept, kept-none, kept-wide, kept-both, kept-then, kept-number, kept-mark}
+use Rattle.put.specs.Kept.{Kept, kept-none, kept-wide, kept-both, kept-number, kept-mark}
 
 -- the j-th number that is not `skip`
 unfoldable pub column : ℕ → ℕ → ℕ

@@ -1,23 +1,23 @@
 -- What solving and writing leaves: the values, and a certificate that the check accepts. Assumes nothing.
-use mathlib.Core.Path.{_≡_, refl, sym, ap, _∙_, subst}
+use mathlib.Core.Path.{_≡_, ap, _∙_}
 use mathlib.Core.List.{List, _++_}
-use Prim.Native.Nat.{ℕ, _+_, _*_, _≤_, _<_, min}
+use Prim.Native.Nat.{ℕ, _+_, _*_, _≤_, _<_}
 use native.Mathlib.Omega.{arith}
 use lib.ListN.{length, take, drop, length-append, length-take}
 use lib.Seq.{take-at}
 use lib.IntN.{ℤ}
 use Rattle.model.specs.Calls.{inputItem}
-use Rattle.model.specs.Certificate.{certificateLength, recordAt, recordLength, checkOf}
+use Rattle.model.specs.Certificate.{certificateLength, recordAt, checkOf}
 use Rattle.model.specs.Order.{subproblems}
 use Rattle.model.specs.Tree.{count}
 use Rattle.model.specs.Values.{values, answer}
 use Rattle.formats.specs.Inputs.{input-accepted}
 use Rattle.subtrees.specs.Filling.{values-long}
-use Rattle.certificate.specs.Length.{length-closed, record-inside, record-up}
+use Rattle.certificate.specs.Length.{length-closed, record-inside}
 use Rattle.one_call.specs.Call.{Solved}
 use Rattle.duals.specs.Left.{RecordLeft, FrontLeft}
 use Rattle.duals.specs.Accepted.{left-accepted}
-use Rattle.put.specs.Kept.{Kept, Alike, kept-then, kept-alike, kept-rest, take-alike, alike-part}
+use Rattle.put.specs.Kept.{Kept, kept-then, kept-alike, kept-rest, take-alike, alike-part}
 use Rattle.put.specs.Front.{FrontPut}
 use Rattle.write.specs.Frames.{front-left, front-weighs, front-same, record-same}
 use Rattle.write.specs.Records.{Full, RecordsLeft, record-first}

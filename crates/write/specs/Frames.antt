@@ -1,13 +1,11 @@
 -- A record and the front of a certificate from the bytes that were stored, and that each depends on its own bytes only. Assumes nothing.
-use mathlib.Core.Path.{_≡_, refl, sym, ap, _∙_, subst}
+use mathlib.Core.Path.{_≡_, sym, ap, _∙_, subst}
 use mathlib.Core.List.{List}
-use Prim.Native.Nat.{ℕ, suc, _+_, _*_, _≤_, _<_}
+use Prim.Native.Nat.{ℕ, _+_, _*_, _≤_}
 use native.Mathlib.Omega.{arith}
 use lib.ListN.{length, getD}
 use lib.IntN.{ℤ, pos}
-use Rattle.model.specs.Bytes.{byteAt, isMark, int32At}
 use Rattle.model.specs.Certificate.{headMark, partnerMark, recordMark, others, recordAt, recordLength, valueIn, childDual, otherDual}
-use Rattle.model.specs.Graph.{neighbours}
 use Rattle.model.specs.Order.{children, uAt, vAt, sAt}
 use Rattle.model.specs.Tree.{count}
 use Rattle.records.specs.Rows.{PlaceOf}

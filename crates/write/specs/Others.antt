@@ -1,7 +1,6 @@
 -- The neighbours of v other than s, by their places among the neighbours. Assumes nothing.
-use mathlib.Core.Path.{_≡_, refl, sym, ap, _∙_, subst}
+use mathlib.Core.Path.{_≡_, refl, sym, ap, _∙_}
 use mathlib.Core.Logic.{_≢_, ⊎-elim}
-use mathlib.Core.Bool.{false}
 use mathlib.Core.List.{List, [], _∷_}
 use Prim.Native.Nat.{ℕ, zero, suc, _+_, _-_, _≤_, _<_}
 use native.Mathlib.Omega.{arith}
@@ -9,8 +8,8 @@ use native.Mathlib.Numerals.{add-one}
 use lib.ListN.{length, getD}
 use lib.Dec.{T}
 use borrow.Author.Tests.{lt-ltb, le-ltb, ne-eqb}
-use Rattle.foundations.specs.Tests.{same, less?, eqb-same}
-use Rattle.foundations.specs.Members.{mem, mem-ne, getD-mem, Distinct, del, del-out, length-del, occ, distinct-occ, place, place-one}
+use Rattle.foundations.specs.Tests.{less?, eqb-same}
+use Rattle.foundations.specs.Members.{mem, mem-ne, getD-mem, Distinct, del, del-out, length-del, distinct-occ, place, place-one}
 use Rattle.model.specs.Certificate.{others}
 use Rattle.model.specs.Graph.{neighbours}
 use Rattle.model.specs.Order.{choices}

@@ -1,8 +1,8 @@
 -- The records of all subproblems, one after the other: what each needs, and what the first k leave. Assumes nothing.
-use mathlib.Core.Path.{_≡_, refl, sym, ap, _∙_, subst}
+use mathlib.Core.Path.{_≡_, sym, ap, _∙_, subst}
 use mathlib.Core.Bool.{Bool, true, false, _&&_, not, cond}
 use mathlib.Core.List.{List}
-use Prim.Native.Nat.{ℕ, zero, suc, _+_, _*_, _-_, _/_, _≤_, _<_}
+use Prim.Native.Nat.{ℕ, zero, suc, _+_, _*_, _-_, _≤_, _<_}
 use native.Mathlib.Omega.{arith}
 use native.Mathlib.Nat.{not-suc-le-zero, mul-le-mul}
 use native.Mathlib.Numerals.{add-one}
@@ -17,11 +17,11 @@ use Rattle.model.specs.Certificate.{others, certificateLength, recordAt, record
 use Rattle.model.specs.Graph.{joined, neighbours}
 use Rattle.model.specs.Order.{parent, children, width, subproblems}
 use Rattle.model.specs.Tree.{count}
-use Rattle.model.specs.Values.{values, Subproblem}
+use Rattle.model.specs.Values.{values}
 use Rattle.trees.specs.Accepted.{Sound}
 use Rattle.trees.specs.Neighbours.{few-neighbours}
 use Rattle.formats.specs.Inputs.{input-accepted}
-use Rattle.solver.specs.Plan.{Ready, Lent}
+use Rattle.solver.specs.Plan.{Ready}
 use Rattle.certificate.specs.Length.{record-up}
 use Rattle.records.specs.Places.{ready-inputs, inputs-recorded, inputs-found, inputs-length, record-in}
 use Rattle.records.specs.Rows.{Rows, PlaceOf}

@@ -1,7 +1,6 @@
 -- `put_record` stores the parts of a record one after the other. Assumes nothing.
 use mir.Facts.{toZ-ofZ}
 use Rattle.put.specs.Puts.{number-as, record-put}
-use native.Mathlib.Omega.{arith}
 use borrow.Author.Needs.{needs}
 use Rattle.put.proofs.put_record.Statement.{statement}
 use Rattle.put.proofs.put_record.Tie as tie

@@ -1,9 +1,9 @@
 -- `put_row` stores one dual after the other. Assumes nothing.
-use mathlib.Core.Path.{_≡_, refl, sym, ap, _∙_, subst}
-use Prim.Native.Nat.{ℕ, _+_, _*_, _-_, _≤_, _<_}
+use mathlib.Core.Path.{_≡_, sym, ap, subst}
+use Prim.Native.Nat.{ℕ, _-_, _≤_, _<_}
 use borrow.Author.Needs.{needs}
 use native.Mathlib.Omega.{arith}
-use lib.ListN.{length, getD}
+use lib.ListN.{getD}
 use Rattle.put.specs.Puts.{RowPut, rowOf, column, row-none, row-more, row-end}
 use Rattle.put.proofs.put_row.Statement.{statement}
 use Rattle.put.proofs.put_row.Tie as tie

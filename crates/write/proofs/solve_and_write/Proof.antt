@@ -1,7 +1,5 @@
 -- `solve_and_write` solves and reads out, then stores the front and the records. Assumes nothing.
-use mathlib.Core.Path.{_≡_, refl, sym, ap, _∙_}
-use Prim.Native.Nat.{ℕ, _≤_}
-use lib.ListN.{length}
+use mathlib.Core.Path.{_∙_}
 use Rattle.foundations.specs.Machine.{back}
 use Rattle.records.specs.Places.{ready-inputs, ready-offsets, inputs-recorded, inputs-found, sound-whole}
 use Rattle.write.specs.Call.{solved-full, front-room, written-left}

@@ -1,7 +1,6 @@
 -- `put_front` stores the head, then the partners. Assumes nothing.
 use mir.Facts.{toZ-ofZ}
 use Rattle.put.specs.Front.{front-put}
-use native.Mathlib.Omega.{arith}
 use borrow.Author.Needs.{needs}
 use Rattle.put.proofs.front.put_front.Statement.{statement}
 use Rattle.put.proofs.front.put_front.Tie as tie

@@ -4,7 +4,6 @@ use Prim.Native.Nat.{_*_, _-_, _≤_}
 use Rattle.model.specs.Order.{subproblems}
 use Rattle.records.specs.Places.{ready-inputs, inputs-recorded, inputs-found, sound-whole}
 use Rattle.write.specs.Records.{RecordsLeft, subproblems-few, records-none, records-more, records-end}
-use borrow.Author.Needs.{needs}
 use native.Mathlib.Omega.{arith}
 use Rattle.write.proofs.record.put_all.Statement.{statement}
 use Rattle.write.proofs.record.put_all.Tie as tie

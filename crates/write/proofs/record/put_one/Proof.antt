@@ -1,14 +1,13 @@
 -- `put_one` finds the place and the duals of subproblem k and stores its record. Assumes nothing.
-use mathlib.Core.Path.{_≡_, refl, sym, ap, _∙_}
-use Prim.Native.Nat.{ℕ, _<_, _≤_, _-_, _/_}
+use mathlib.Core.Path.{_≡_}
+use Prim.Native.Nat.{_-_, _/_}
 use lib.ListN.{length, getD}
 use lib.IntN.{pos}
 use Rattle.foundations.specs.Machine.{back}
-use Rattle.model.specs.Graph.{neighbours}
 use Rattle.model.specs.Order.{children}
 use Rattle.solver.specs.Plan.{ready-known}
 use Rattle.records.specs.Places.{ready-laid, ready-inputs, ready-offsets, inputs-found}
-use Rattle.write.specs.Records.{one-others, one-few, one-degree, one-size, one-row, one-count, one-room, fit-children, fit-others, one-left, subproblems-few}
+use Rattle.write.specs.Records.{one-size, one-row, one-room, fit-children, fit-others, one-left, subproblems-few}
 use native.Mathlib.Omega.{arith}
 use borrow.Author.Needs.{needs}
 use Rattle.write.proofs.record.put_one.Statement.{statement}

@@ -1,7 +1,5 @@
 -- `put_records` makes the arrays that say where records stand, and stores all records. Assumes nothing.
 use Rattle.records.specs.Places.{ready-inputs, ready-offsets, inputs-recorded, inputs-found}
-use native.Mathlib.Omega.{arith}
-use borrow.Author.Needs.{needs}
 use Rattle.write.proofs.record.put_records.Statement.{statement}
 use Rattle.write.proofs.record.put_records.Tie as tie
 
