@@ -1,7 +1,7 @@
 -- A certificate that holds a heaviest mapping, the values and duals of every subproblem is accepted. Assumes nothing.
-use mathlib.Core.Path.{_≡_, refl, sym, ap, _∙_, subst}
-use mathlib.Core.Logic.{_⊎_, inl, inr, ⊎-elim, _≢_}
-use mathlib.Core.Bool.{Bool, true, false, _&&_}
+use mathlib.Core.Path.{_≡_, refl, sym, ap, _∙_}
+use mathlib.Core.Logic.{⊎-elim, _≢_}
+use mathlib.Core.Bool.{true}
 use mathlib.Core.List.{List, [], _∷_, _++_}
 use Prim.Native.Nat.{ℕ, zero, suc, _+_, _*_, _≤_, _<_}
 use native.Mathlib.Omega.{arith}
@@ -13,17 +13,16 @@ use lib.Signed.{leZ}
 use borrow.Author.Tests.{eq-eqb}
 use Rattle.foundations.specs.Int.{ints}
 use Rattle.foundations.specs.Lists.{every, every-all, tab, tab-ext}
-use Rattle.foundations.specs.Members.{mem, mem-here, mem-there, getD-mem, Distinct, del, del-mem, distinct-del, mem-occ, distinct-occ, place, place-low, place-at, place-one, lsum-ext, lsum-place}
+use Rattle.foundations.specs.Members.{mem, mem-here, mem-there, getD-mem, Distinct, del, del-mem, distinct-del, mem-occ, place, place-low, place-at, lsum-ext, lsum-place}
 use Rattle.foundations.specs.Sums.{sum, sumℤ, sumℤ-ext, lsum}
 use Rattle.foundations.specs.Tests.{same, and-both}
 use Rattle.model.specs.Bytes.{byteAt, isMark}
-use Rattle.model.specs.Limits.{forbidden}
 use Rattle.model.specs.Weights.{Weight, none, some, weighed, plusW, isForbidden}
 use Rattle.model.specs.Tree.{count}
 use Rattle.model.specs.Graph.{neighbours}
 use Rattle.model.specs.Order.{children, subproblems, index, uAt, vAt, sAt}
 use Rattle.model.specs.Pairs.{vertexPair, edgePair}
-use Rattle.model.specs.Mapping.{weight, Heaviest, mappingOk}
+use Rattle.model.specs.Mapping.{weight, Heaviest}
 use Rattle.model.specs.Values.{branch, valueFrom, Subproblem, Solves, value, values, number, recalled, largest, answer}
 use Rattle.model.specs.Calls.{inputItem}
 use Rattle.model.specs.Certificate.{headMark, partnerMark, recordMark, certificateLength, others, recordAt, weightIn, mappingIn, valueIn, childDual, otherDual, valueOf, eqZ, atMost, shapeOk, forbiddenOk, coverOk, dualsOk, pairOk, subproblemOk, checkOf}
@@ -35,7 +34,7 @@ use Rattle.subtrees.specs.Theorems.{quick-mapping, solved-answer}
 use Rattle.subtrees.specs.ValueRange.{value-forbidden}
 use Rattle.certificate.specs.Items.{check-none}
 use Rattle.certificate.specs.Rules.{eqZ-same}
-use Rattle.duals.specs.Left.{DualsAt, RecordLeft, FrontLeft}
+use Rattle.duals.specs.Left.{RecordLeft, FrontLeft}
 use Rattle.duals.specs.Fits.{work-at, work-recalls, work-value, duals-value}
 
 -- ---- sums of duals

@@ -6,18 +6,17 @@ use mathlib.Core.List.{List}
 use Prim.Native.Nat.{ℕ, zero, suc, _+_, _≤_, _<_}
 use native.Mathlib.Omega.{arith}
 use lib.ListN.{length, getD, replicate}
-use lib.IntN.{ℤ, pos, _+ℤ_}
+use lib.IntN.{ℤ, pos}
 use borrow.Author.Tests.{eq-eqb, ne-eqb}
-use Rattle.foundations.specs.Int.{int, ints, canon}
+use Rattle.foundations.specs.Int.{ints, canon}
 use Rattle.foundations.specs.Members.{del}
-use Rattle.foundations.specs.Sums.{sum}
 use Rattle.model.specs.Weights.{Weight, none, some, weighed, plusW, isForbidden}
 use Rattle.model.specs.Graph.{neighbours}
 use Rattle.model.specs.Order.{children}
 use Rattle.model.specs.Pairs.{vertexPair}
 use Rattle.model.specs.Values.{best, branch, valueFrom, recalled}
 use Rattle.model.specs.Certificate.{atMost}
-use Rattle.subtrees.specs.WeightLaws.{none≢some, some-inj}
+use Rattle.subtrees.specs.WeightLaws.{none≢some}
 use Rattle.assignment.specs.Matching.{at, cell}
 use Rattle.assignment.specs.State.{Solved, Answer}
 use Rattle.solver.specs.Exact.{upW, branchGain, Gains, solved-best}

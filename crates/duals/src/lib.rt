@@ -3,7 +3,6 @@ use solver::subproblem::gains;
 use solver::subproblem::pair_weight;
 use solver::subproblem::width_of;
 ghost use mathlib.Core.Path.{_≡_};
-ghost use mathlib.Core.Bool.{true};
 ghost use lib.ListN.{length};
 ghost use Rattle.model.specs.Values.{Subproblem};
 ghost use Rattle.solver.specs.Branches.{Readable};
@@ -27,7 +26,10 @@ fn wide(x: u8) -> usize
 fn both(children: [u64; 8], neighbours: [u64; 8]) -> Duals
     ensures { λ r. ⌜ (r .children ≡ children) × (r .neighbours ≡ neighbours) ⌝ }
 {
-    Duals { children, neighbours }
+    Duals {
+        children,
+        neighbours,
+    }
 }
 
 // The duals of a pair of weight w with k children, l neighbours and s: those of a heaviest matching, and 0 where w is forbidden.
