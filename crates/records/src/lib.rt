@@ -18,7 +18,7 @@ ghost use Rattle.records.specs.Rows.{Rows, PlaceOf};
 ghost use Rattle.records.specs.Places.{Inputs, Offsets, SumsTo, SizesTo, Standing, Laid};
 
 // The degree of a found vertex, from where its subproblems begin and end.
-fn degree_of(found: &[u8], starts: &[usize; 65], v: usize) -> usize
+pub fn degree_of(found: &[u8], starts: &[usize; 65], v: usize) -> usize
     requires { ⌜ Sound (now found) ⌝ }
     requires { ⌜ Offsets (now found) (now starts) ⌝ }
     requires { ⌜ v < count (now found) ⌝ }

@@ -1,0 +1,50 @@
+//! Storing the front of a certificate: the head, and a partner for each recorded vertex.
+use crate::put_mark;
+use crate::put_number;
+ghost use Prim.Native.Nat.{_+_, _*_, _≤_};
+ghost use lib.ListN.{length};
+ghost use Rattle.put.specs.Front.{HeadPut, PartnerPut, PartnersPut, FrontPut};
+
+// Stores the head: the two counts and the weight.
+fn put_head(d: &mut [u8], n: usize, m: usize, w: i32)
+    requires { ⌜ 8 ≤ length (now d) ⌝ }
+    requires { ⌜ (n ≤ 64) × (m ≤ 64) ⌝ }
+    ensures { λ _. ⌜ HeadPut n m w (now (d .entry)) (now (d .exit)) ⌝ }
+{
+    put_mark(d, 0, b"\xC1\x01");
+    d[2] = n as u8;
+    d[3] = m as u8;
+    put_number(d, 4, w);
+}
+
+// Stores one partner.
+fn put_partner(d: &mut [u8], at: usize, p: u8)
+    requires { ⌜ at + 3 ≤ length (now d) ⌝ }
+    ensures { λ _. ⌜ PartnerPut at p (now (d .entry)) (now (d .exit)) ⌝ }
+{
+    put_mark(d, at, b"\xC1\x02");
+    d[at + 2] = p;
+}
+
+// Stores the first n partners.
+fn put_partners(d: &mut [u8], mapping: &[u8; 64], n: usize)
+    requires { ⌜ 8 + 3 * n ≤ length (now d) ⌝ }
+    requires { ⌜ n ≤ 64 ⌝ }
+    ensures { λ _. ⌜ PartnersPut n (now (mapping .entry)) (now (d .entry)) (now (d .exit)) ⌝ }
+{
+    let mut i = 0;
+    while i < n {
+        put_partner(d, 8 + 3 * i, mapping[i]);
+        i += 1;
+    }
+}
+
+// Stores the head and n partners.
+pub fn put_front(d: &mut [u8], n: usize, m: usize, w: i32, mapping: &[u8; 64])
+    requires { ⌜ 8 + 3 * n ≤ length (now d) ⌝ }
+    requires { ⌜ (n ≤ 64) × (m ≤ 64) ⌝ }
+    ensures { λ _. ⌜ FrontPut n m w (now (mapping .entry)) (now (d .entry)) (now (d .exit)) ⌝ }
+{
+    put_head(d, n, m, w);
+    put_partners(d, mapping, n);
+}

@@ -1,0 +1,7 @@
+-- What writing a certificate leaves.
+pub mod Others
+pub mod Frames
+pub mod Records
+pub mod Items
+pub mod Call
+pub mod Theorems
