@@ -21,7 +21,7 @@ use trees::postorder;
 ghost use mathlib.Core.Path.{_≡_};
 ghost use Rattle.model.specs.Certificate.{checkOf};
 ghost use Rattle.solver.specs.Plan.{Ready};
-ghost use Rattle.check_front.specs.Front.{FrontPassed, FrontChecked};
+ghost use Rattle.check_front.specs.Front.{FrontChecked};
 ghost use Rattle.check_records.specs.Items.{recordsItem};
 ghost use Rattle.check_records.specs.Gains.{Sized};
 
