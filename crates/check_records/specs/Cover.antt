@@ -1,24 +1,20 @@
 -- The rules of one record over arrays: columns of the neighbours other than s, covers, and the tests that the code makes. Assumes nothing.
-use mathlib.Core.Path.{_≡_, refl, sym, ap, _∙_}
-use mathlib.Core.Logic.{⊎-elim, _≢_}
-use mathlib.Core.Bool.{Bool, true, false, cond, _&&_}
-use mathlib.Core.List.{List, [], _∷_}
-use Prim.Native.Nat.{ℕ, zero, suc, _+_, _-_, _*_, _≤_, _<_, _^_}
+use mathlib.Core.Path.{_≡_, refl}
+use mathlib.Core.Logic.{_≢_}
+use mathlib.Core.Bool.{Bool, cond, _&&_}
+use mathlib.Core.List.{List}
+use Prim.Native.Nat.{ℕ, zero, suc, _+_, _*_, _≤_, _<_, _^_}
 use native.Mathlib.Omega.{arith}
-use native.Mathlib.Nat.{not-suc-le-zero}
-use lib.ListN.{length, getD}
-use lib.Dec.{T, eqb, ltb, leb}
+use lib.Dec.{eqb, ltb, leb}
 use lib.IntN.{ℤ, pos, _+ℤ_}
-use borrow.Author.Tests.{eq-eqb, ne-eqb, lt-ltb, le-ltb}
+use borrow.Author.Tests.{ne-eqb, lt-ltb, le-ltb}
 use Rattle.foundations.specs.Int.{up}
 use Rattle.foundations.specs.Lists.{every}
-use Rattle.foundations.specs.Members.{mem, getD-mem, mem-ne, Distinct, del, del-out}
 use Rattle.foundations.specs.Sums.{sum, sum-ext}
-use Rattle.foundations.specs.Tests.{same?, less?}
 use Rattle.model.specs.Bytes.{int32At}
 use Rattle.model.specs.Certificate.{eqZ}
 use Rattle.model.specs.Weights.{isForbidden}
-use Rattle.assignment.specs.Matching.{at, cell, gainLimit}
+use Rattle.assignment.specs.Matching.{at, cell}
 use Rattle.check_records.specs.Numbers.{Within, notNegative, isNought, NumbersIn}
 
 -- ---- columns

@@ -1,8 +1,7 @@
 -- The gains of a record's branches from the certificate's own values: what the code reads, and that it is the model's. Assumes nothing.
-use mathlib.Core.Path.{_≡_, refl, sym, ap, _∙_, subst}
-use mathlib.Core.Logic.{⊎-elim, _≢_}
+use mathlib.Core.Path.{_≡_, sym, ap, _∙_}
 use mathlib.Core.List.{List, []}
-use Prim.Native.Nat.{ℕ, zero, suc, _+_, _-_, _*_, _≤_, _<_}
+use Prim.Native.Nat.{ℕ, _+_, _-_, _*_, _≤_, _<_}
 use native.Mathlib.Omega.{arith}
 use lib.ListN.{length, getD}
 use lib.Dec.{T}
@@ -27,7 +26,7 @@ use Rattle.solver.specs.Plan.{Sides, Lent}
 use Rattle.solver.specs.PlanLaws.{Taken, KidsAre, BehindTo, behind-is, taken-neighbours}
 use Rattle.solver.specs.Exact.{upW}
 use Rattle.solver.specs.Branches.{GainIs, Prepared, prepared-readable, prepared-stands}
-use Rattle.records.specs.Places.{Standing, inputs-found, inputs-length}
+use Rattle.records.specs.Places.{Standing, inputs-found}
 
 -- ---- one value
 

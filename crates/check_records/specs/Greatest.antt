@@ -1,28 +1,26 @@
 -- The largest recorded value with s = v: the search over a certificate's values is that over work numbers. Assumes nothing.
-use mathlib.Core.Path.{_≡_, refl, sym, ap, _∙_, subst}
+use mathlib.Core.Path.{_≡_, refl, sym, ap, _∙_}
 use mathlib.Core.Logic.{⊎-elim, inl, inr}
 use mathlib.Core.List.{List}
-use Prim.Native.Nat.{ℕ, _+_, _*_, _-_, _≤_, _<_, max}
+use Prim.Native.Nat.{ℕ, _+_, _*_, _≤_, _<_, max}
 use native.Mathlib.Omega.{arith}
-use lib.ListN.{length, getD}
-use lib.Dec.{T}
+use lib.ListN.{getD}
 use lib.IntN.{ℤ, pos}
 use mathlib.Core.Bool.{true}
 use Rattle.foundations.specs.Int.{up}
-use Rattle.foundations.specs.Members.{mem, mem-here, mem-below}
+use Rattle.foundations.specs.Members.{mem-here, mem-below}
 use Rattle.foundations.specs.Tests.{less?}
 use Rattle.model.specs.Certificate.{valueIn, valueOf}
 use Rattle.model.specs.Graph.{neighbours}
 use Rattle.model.specs.Mapping.{num}
-use Rattle.model.specs.Order.{position, width, offset, index, subproblems}
+use Rattle.model.specs.Order.{position, width, index, subproblems}
 use Rattle.model.specs.Tree.{count}
-use Rattle.model.specs.Values.{greatest, vertices, largest, recalled}
-use Rattle.model.specs.Weights.{none, some}
+use Rattle.model.specs.Values.{vertices, largest}
 use Rattle.trees.specs.Accepted.{Sound}
 use Rattle.trees.specs.Positions.{index-low, position-low}
 use Rattle.subtrees.specs.Matching.{greatest-ext}
 use Rattle.one_call.specs.Top.{TopOf, Raised, top-none, top-more, top-row, top-end, top-largest, index-own}
-use Rattle.records.specs.Places.{Standing, Inputs, inputs-recorded, inputs-found}
+use Rattle.records.specs.Places.{Standing, inputs-recorded, inputs-found}
 use Rattle.check_records.specs.Gains.{Sits, valuesIn, values-at, values-recalled}
 
 -- each recorded vertex's place in the postorder

@@ -1,8 +1,8 @@
 -- The items 23 and 24, after the front of the check. Assumes nothing.
-use mathlib.Core.Path.{_≡_, refl, sym, ap, _∙_}
-use mathlib.Core.Bool.{Bool, true, false, cond, not}
+use mathlib.Core.Path.{_≡_, refl, sym, ap}
+use mathlib.Core.Bool.{Bool, true, false, cond}
 use mathlib.Core.List.{List}
-use Prim.Native.Nat.{ℕ, _+_, _*_, _≤_}
+use Prim.Native.Nat.{ℕ, _+_, _≤_}
 use native.Mathlib.Omega.{arith}
 use lib.Dec.{eqb}
 use lib.ListN.{length}
@@ -11,12 +11,11 @@ use borrow.Author.Tests.{eqb-true}
 use Rattle.foundations.specs.Int.{int}
 use Rattle.foundations.specs.Lists.{every}
 use Rattle.foundations.specs.Tests.{and-split}
-use Rattle.model.specs.Calls.{inputItem}
 use Rattle.model.specs.Certificate.{certificateLength, weightIn, eqZ, valueOf, shapeOk, subproblemOk, checkOf}
 use Rattle.model.specs.Order.{subproblems}
 use Rattle.model.specs.Values.{largest}
-use Rattle.certificate.specs.Items.{CheckPassed, check-23, check-24, check-none}
-use Rattle.check_front.specs.Front.{FrontPassed, FrontChecked}
+use Rattle.certificate.specs.Items.{check-23, check-24, check-none}
+use Rattle.check_front.specs.Front.{FrontPassed}
 use Rattle.check_records.specs.Gains.{Sized}
 
 unfoldable pub recordsItem : List ℕ → List ℕ → List ℕ → List ℕ → ℕ

@@ -1,20 +1,19 @@
 -- What the code of one record has read, and that its test is the model's. Assumes nothing.
-use mathlib.Core.Path.{_≡_, refl, sym, ap, _∙_, subst}
-use mathlib.Core.Bool.{Bool, true, false}
+use mathlib.Core.Path.{_≡_, sym, ap, _∙_}
+use mathlib.Core.Bool.{Bool}
 use mathlib.Core.List.{List, []}
-use Prim.Native.Nat.{ℕ, zero, suc, _+_, _-_, _*_, _≤_, _<_}
+use Prim.Native.Nat.{ℕ, _+_, _*_, _≤_, _<_}
 use native.Mathlib.Omega.{arith}
 use lib.ListN.{length, getD}
 use lib.IntN.{ℤ}
-use Rattle.model.specs.Calls.{inputItem}
 use Rattle.model.specs.Certificate.{certificateLength, others, recordAt, recordLength, valueOf, subproblemOk}
-use Rattle.model.specs.Graph.{neighbours, neighbourTable}
+use Rattle.model.specs.Graph.{neighbours}
 use Rattle.model.specs.Order.{children, position, width, subproblems, uAt, vAt, sAt}
 use Rattle.model.specs.Pairs.{vertexPair}
 use Rattle.model.specs.Tree.{count}
 use Rattle.model.specs.Values.{branch, Subproblem}
 use Rattle.model.specs.Weights.{some}
-use Rattle.trees.specs.Accepted.{Sound, Passed}
+use Rattle.trees.specs.Accepted.{Sound}
 use Rattle.trees.specs.Neighbours.{few-neighbours}
 use Rattle.formats.specs.Inputs.{Accepted, input-accepted}
 use Rattle.certificate.specs.Length.{record-inside, length-most}
@@ -27,7 +26,7 @@ use Rattle.solver.specs.FillLaws.{number-few}
 use Rattle.records.specs.Rows.{PlaceOf}
 use Rattle.check_records.specs.Cover.{Standing, columnIn, dualsIn}
 use Rattle.check_records.specs.Rules.{othersOf, others-few, OthersAt, others-at, RecordIs, record-some}
-use Rattle.check_records.specs.Gains.{Sized, Reads, gainsIn, columns-are, gains-read, gain-is}
+use Rattle.check_records.specs.Gains.{Reads, gainsIn, columns-are, gains-read, gain-is}
 
 -- the children of u, by vertex and by the label of the edge to them; their places in the postorder
 pub record KidsIn (r f place : List ℕ) (u n : ℕ) (label vertex : List ℕ) : Type 0 where

@@ -16,14 +16,13 @@ use Rattle.foundations.specs.Lists.{every, every-at}
 use Rattle.foundations.specs.Members.{mem, getD-mem, mem-ne, Distinct, del, del-out, length-del}
 use Rattle.foundations.specs.Sums.{sum, sumℤ}
 use Rattle.foundations.specs.Tests.{same?, less?, T→true}
-use Rattle.model.specs.Bytes.{int32At}
 use Rattle.model.specs.Certificate.{others, recordAt, valueIn, childDual, otherDual, valueOf, eqZ, atMost, forbiddenOk, coverOk, dualsOk, pairOk, subproblemOk}
 use Rattle.model.specs.Graph.{neighbours}
 use Rattle.model.specs.Order.{children, choices, uAt, vAt, sAt}
 use Rattle.model.specs.Pairs.{vertexPair}
 use Rattle.model.specs.Tree.{count}
 use Rattle.model.specs.Values.{branch}
-use Rattle.model.specs.Weights.{Weight, none, some, isForbidden}
+use Rattle.model.specs.Weights.{Weight, none, some}
 use Rattle.trees.specs.Accepted.{Passed}
 use Rattle.trees.specs.Neighbours.{once-neighbours}
 use Rattle.trees.specs.Rooted.{no-self}

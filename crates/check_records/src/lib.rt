@@ -23,7 +23,7 @@ ghost use mathlib.Core.Path.{_≡_};
 ghost use Rattle.model.specs.Certificate.{checkOf};
 ghost use Rattle.model.specs.Tree.{count};
 ghost use Rattle.solver.specs.Plan.{Ready};
-ghost use Rattle.check_front.specs.Front.{FrontPassed, FrontChecked};
+ghost use Rattle.check_front.specs.Front.{FrontChecked};
 ghost use Rattle.check_records.specs.Items.{recordsItem};
 ghost use Rattle.check_records.specs.Gains.{Sized};
 
@@ -88,7 +88,8 @@ fn records_item(
     0
 }
 
-// The check's answer, after the front of it: a refusal stays, else the items 23 and 24 are tested; 0 for accepted. The records begin at `at`.
+// The check's answer, after the front of it: a refusal stays, else the items 23 and 24 are tested; 0 for accepted. `at` is where the records begin;
+// it is not read, as the arrays that are made here begin there too.
 pub fn check_records(
     table: &[u8],
     recorded: &[u8],

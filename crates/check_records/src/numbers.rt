@@ -7,7 +7,6 @@ ghost use lib.IntN.{pos, _+ℤ_};
 ghost use lib.Signed.{leZ};
 ghost use Rattle.foundations.specs.Int.{up};
 ghost use Rattle.foundations.specs.Lists.{every};
-ghost use Rattle.model.specs.Bytes.{int32At};
 ghost use Rattle.model.specs.Certificate.{eqZ};
 ghost use Rattle.check_records.specs.Numbers.{Within, notNegative, isNought, NumbersIn};
 

@@ -3,8 +3,7 @@ use Rattle.check_records.specs.Items.{front-sized, records-last}
 use Rattle.check_front.specs.Front.{FrontPassed}
 use Rattle.one_call.specs.Assemble.{found-sound, order-different, ready}
 use Rattle.formats.specs.Inputs.{Accepted, input-accepted}
-use mathlib.Core.Path.{_≡_, sym, _∙_}
-use native.Mathlib.Omega.{arith}
+use mathlib.Core.Path.{_≡_, _∙_}
 use borrow.Author.Needs.{needs}
 use Rattle.check_records.proofs.check_records.Statement.{statement}
 use Rattle.check_records.proofs.check_records.Tie as tie

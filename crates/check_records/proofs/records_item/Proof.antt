@@ -8,10 +8,9 @@ use Rattle.model.specs.Certificate.{weightIn, valueOf, eqZ}
 use Rattle.foundations.specs.Tests.{cond-no, cond-yes}
 use Rattle.foundations.specs.Machine.{Same, back}
 use lib.IntN.{pos}
-use Prim.Native.Nat.{_≤_, _<_, _^_}
+use Prim.Native.Nat.{_<_}
 use mathlib.Core.Path.{_≡_, refl, _∙_}
 use native.Mathlib.Omega.{arith}
-use borrow.Author.Needs.{needs}
 use Rattle.check_records.proofs.records_item.Statement.{statement}
 use Rattle.check_records.proofs.records_item.Tie as tie
 

@@ -1,9 +1,6 @@
 -- `duals_ok` meets its contract. Assumes nothing.
 use Rattle.check_records.specs.Cover.{dualsIn, stands-below, stands-across, numbers-cover, total-small, total-is, covers-are}
-use Rattle.assignment.specs.Matching.{gainLimit}
 use Rattle.foundations.specs.Machine.{Same, back}
-use mathlib.Core.Path.{_≡_, _∙_}
-use Prim.Native.Nat.{_≤_, _+_, _<_}
 use native.Mathlib.Omega.{arith}
 use borrow.Author.Needs.{needs}
 use Rattle.check_records.proofs.cover.duals_ok.Statement.{statement}

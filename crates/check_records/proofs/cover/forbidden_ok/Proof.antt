@@ -1,7 +1,6 @@
 -- `forbidden_ok` meets its contract. Assumes nothing.
 use Rattle.check_records.specs.Cover.{noughtIn, stands-below, stands-across}
 use Rattle.foundations.specs.Machine.{Same, back}
-use native.Mathlib.Omega.{arith}
 use borrow.Author.Needs.{needs}
 use Rattle.check_records.proofs.cover.forbidden_ok.Statement.{statement}
 use Rattle.check_records.proofs.cover.forbidden_ok.Tie as tie

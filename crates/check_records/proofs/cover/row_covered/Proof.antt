@@ -2,7 +2,7 @@
 use Rattle.check_records.specs.Cover.{isCovered}
 use Rattle.foundations.specs.Lists.{every, every-step, every-end}
 use mathlib.Core.Path.{_≡_, refl}
-use Prim.Native.Nat.{_≤_, _-_, _+_, _*_}
+use Prim.Native.Nat.{_≤_, _-_}
 use borrow.Author.Needs.{needs}
 use native.Mathlib.Omega.{arith}
 use Rattle.check_records.proofs.cover.row_covered.Statement.{statement}

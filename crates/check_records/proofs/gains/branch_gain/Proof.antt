@@ -4,7 +4,6 @@ use Rattle.foundations.specs.Machine.{Same, back}
 use lib.IntN.{pos}
 use lib.ListN.{getD}
 use mathlib.Core.Path.{refl}
-use native.Mathlib.Omega.{arith}
 use borrow.Author.Needs.{needs}
 use Rattle.check_records.proofs.gains.branch_gain.Statement.{statement}
 use Rattle.check_records.proofs.gains.branch_gain.Tie as tie

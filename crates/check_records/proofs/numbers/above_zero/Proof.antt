@@ -1,8 +1,6 @@
 -- `above_zero` meets its contract. Assumes nothing.
 use Rattle.foundations.specs.Machine.{machine, signed, natAbs-is}
 use Rattle.foundations.specs.Int.{canon}
-use borrow.Author.Needs.{needs}
-use native.Mathlib.Omega.{arith}
 use Rattle.check_records.proofs.numbers.above_zero.Statement.{statement}
 use Rattle.check_records.proofs.numbers.above_zero.Tie as tie
 

@@ -1,8 +1,6 @@
 -- `is_nought` meets its contract. Assumes nothing.
 use Rattle.model.specs.Certificate.{eqZ}
 use Rattle.foundations.specs.Machine.{machine}
-use borrow.Author.Needs.{needs}
-use native.Mathlib.Omega.{arith}
 use Rattle.check_records.proofs.numbers.is_nought.Statement.{statement}
 use Rattle.check_records.proofs.numbers.is_nought.Tie as tie
 

@@ -1,10 +1,9 @@
 -- `none_negative` meets its contract: the test is gathered number by number. Assumes nothing.
 use Rattle.check_records.specs.Numbers.{notNegative}
-use Rattle.model.specs.Bytes.{int32At}
 use Rattle.foundations.specs.Machine.{Same, back}
 use Rattle.foundations.specs.Lists.{every, every-step, every-end}
 use mathlib.Core.Path.{_≡_, refl}
-use Prim.Native.Nat.{_≤_, _-_, _+_, _*_}
+use Prim.Native.Nat.{_≤_, _-_}
 use borrow.Author.Needs.{needs}
 use native.Mathlib.Omega.{arith}
 use Rattle.check_records.proofs.numbers.none_negative.Statement.{statement}

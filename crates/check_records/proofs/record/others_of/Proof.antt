@@ -1,6 +1,5 @@
 -- `others_of` meets its contract. Assumes nothing.
 use Rattle.check_records.specs.Rules.{others-all, others-less}
-use native.Mathlib.Omega.{arith}
 use borrow.Author.Needs.{needs}
 use Rattle.check_records.proofs.record.others_of.Statement.{statement}
 use Rattle.check_records.proofs.record.others_of.Tie as tie

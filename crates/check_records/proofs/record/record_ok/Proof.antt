@@ -5,7 +5,7 @@ use Rattle.records.specs.Places.{ready-standing, ready-laid}
 use Rattle.solver.specs.Branches.{weighed-none, weighed-number}
 use Rattle.foundations.specs.Machine.{Same, back}
 use Prim.Native.Nat.{_<_}
-use mathlib.Core.Path.{_≡_, sym, _∙_}
+use mathlib.Core.Path.{sym, _∙_}
 use native.Mathlib.Omega.{arith}
 use borrow.Author.Needs.{needs}
 use Rattle.check_records.proofs.record.record_ok.Statement.{statement}

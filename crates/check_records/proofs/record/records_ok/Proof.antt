@@ -5,7 +5,7 @@ use Rattle.model.specs.Order.{subproblems}
 use Rattle.model.specs.Certificate.{subproblemOk}
 use Rattle.foundations.specs.Lists.{every, every-step, every-end}
 use Prim.Native.Nat.{_≤_, _-_, _*_}
-use mathlib.Core.Path.{_≡_, refl, _∙_}
+use mathlib.Core.Path.{_≡_, refl}
 use borrow.Author.Needs.{needs}
 use native.Mathlib.Omega.{arith}
 use Rattle.check_records.proofs.record.records_ok.Statement.{statement}

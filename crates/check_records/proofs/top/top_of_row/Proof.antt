@@ -2,7 +2,7 @@
 use Rattle.check_records.specs.Greatest.{Greatest, own-sits, greatest-more, greatest-row}
 use Rattle.foundations.specs.Machine.{Same, back}
 use mathlib.Core.Path.{_≡_, _∙_}
-use Prim.Native.Nat.{_≤_, _-_, _<_}
+use Prim.Native.Nat.{_≤_, _-_}
 use borrow.Author.Needs.{needs}
 use native.Mathlib.Omega.{arith}
 use Rattle.check_records.proofs.top.top_of_row.Statement.{statement}
