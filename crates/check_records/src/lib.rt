@@ -88,8 +88,7 @@ fn records_item(
     0
 }
 
-// The check's answer, after the front of it: a refusal stays, else the items 23 and 24 are tested; 0 for accepted. `at` is where the records begin;
-// it is not read, as the arrays that are made here begin there too.
+// The check's answer, after the front of it: a refusal stays, else the items 23 and 24 are tested; 0 for accepted. The records begin at `at`.
 pub fn check_records(
     table: &[u8],
     recorded: &[u8],

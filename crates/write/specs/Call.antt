@@ -7,26 +7,33 @@ use lib.ListN.{length, take, drop, length-append, length-take}
 use lib.Seq.{take-at}
 use lib.IntN.{ℤ}
 use Rattle.model.specs.Calls.{inputItem}
-use Rattle.model.specs.Certificate.{certificateLength, recordAt, checkOf}
+use Rattle.model.specs.Certificate.{certificateLength, recordAt, weightIn, mappingIn, valueIn, checkOf}
 use Rattle.model.specs.Order.{subproblems}
 use Rattle.model.specs.Tree.{count}
-use Rattle.model.specs.Values.{values, answer}
+use Rattle.model.specs.Mapping.{Heaviest}
+use Rattle.model.specs.Values.{values, valueAt, answer}
 use Rattle.formats.specs.Inputs.{input-accepted}
 use Rattle.subtrees.specs.Filling.{values-long}
 use Rattle.certificate.specs.Length.{length-closed, record-inside}
+use Rattle.certificate.specs.Sound.{certificate-sound}
 use Rattle.one_call.specs.Call.{Solved}
 use Rattle.duals.specs.Left.{RecordLeft, FrontLeft}
+use Rattle.duals.specs.Fits.{work-at}
 use Rattle.duals.specs.Accepted.{left-accepted}
 use Rattle.put.specs.Kept.{Kept, kept-then, kept-alike, kept-rest, take-alike, alike-part}
 use Rattle.put.specs.Front.{FrontPut}
 use Rattle.write.specs.Frames.{front-left, front-weighs, front-same, record-same}
 use Rattle.write.specs.Records.{Full, RecordsLeft, record-first}
 
--- the work numbers are the values; the front of the buffer is a certificate that the check accepts, and l is its length
+-- the work numbers are the values; the front of the buffer is a certificate that the check accepts, with the values, the answer's weight and a heaviest
+-- mapping in it, and l is its length
 pub record Left (table r f : List ℕ) (work : List ℤ) (z : List ℕ) (work′ : List ℤ) (z′ : List ℕ) (l : ℕ) : Type 0 where
   pub filled : work′ ≡ values table r f ++ drop (subproblems r f) work
   pub rest : z′ ≡ take (certificateLength r f) z′ ++ drop (certificateLength r f) z
   pub accepted : checkOf table r f (take (certificateLength r f) z′) ≡ 0
+  pub values-in : (k : ℕ) → k < subproblems r f → valueIn r f (take (certificateLength r f) z′) k ≡ valueAt table r f k
+  pub weight-in : weightIn (take (certificateLength r f) z′) ≡ answer table r f
+  pub heaviest-in : Heaviest table r f (mappingIn r (take (certificateLength r f) z′))
   pub long : l ≡ certificateLength r f
 
 -- solved work numbers hold the values
@@ -67,11 +74,21 @@ module _ {table r f : List ℕ} {work : List ℤ} {m : List ℕ} {work′ : List
   long : length (take (certificateLength r f) z′) ≡ certificateLength r f
   long = let e = kept .size in simp length-take (omega arith)
 
+  accepted : checkOf table r f (take (certificateLength r f) z′) ≡ 0
+  accepted = left-accepted table r f passes work′ (full .filled) m′ (take (certificateLength r f) z′) (S .heaviest) (S .exact) enough long front records
+
+  value-in : (k : ℕ) → k < subproblems r f → valueIn r f (take (certificateLength r f) z′) k ≡ valueAt table r f k
+  unfolding valueAt
+  value-in k h = records k h .value ∙ work-at table r f passes work′ (full .filled) k h
+
   pub written-left : {l : ℕ} → l ≡ certificateLength r f → Left table r f work z work′ z′ l
   written-left e =
       record {
         filled = S .filled;
         rest = kept-rest kept;
-        accepted = left-accepted table r f passes work′ (full .filled) m′ (take (certificateLength r f) z′) (S .heaviest) (S .exact) enough long front records;
+        accepted = accepted;
+        values-in = value-in;
+        weight-in = front .weighs;
+        heaviest-in = certificate-sound table r f (take (certificateLength r f) z′) accepted .0;
         long = e;
       }

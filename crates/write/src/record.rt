@@ -169,7 +169,13 @@ pub fn put_records(
 {
     let sums = square_sums(found, starts);
     let sizes = record_sizes(recorded, rnear, rlabels, order, place);
-    let begins = row_begins(recorded, found, &sizes, &sums);
+    let begins = row_begins(
+        recorded,
+        found,
+        &sizes,
+        &sums,
+        8 + 3 * vertex_count(recorded),
+    );
     put_all(
         table,
         recorded,

@@ -83,7 +83,7 @@ returns-2 c =
     let g = ap Written (s .long) in
     record {
       refused = λ n. absurd (n (zero e));
-      written = λ z. record { values-left = s .filled; rest = s .rest; accepted = s .accepted; given = g; number = written-number g; measures = written-length g };
+      written = λ z. record { values-left = s .filled; rest = s .rest; accepted = s .accepted; values-in = s .values-in; weight-in = s .weight-in; heaviest-in = s .heaviest-in; given = g; number = written-number g; measures = written-length g };
     }
 
 pub write-certificate-spec : {M : Type 1} → statement M
