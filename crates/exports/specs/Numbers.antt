@@ -15,7 +15,9 @@ use Rattle.model.specs.Mapping.{IsMapping, Heaviest, weight}
 use Rattle.model.specs.Values.{values}
 use Rattle.model.specs.Match.{weightOf}
 use Rattle.model.specs.Jobs.{finishItem}
-use Rattle.exports.specs.Exported.{Exported, Finishes}
+use Rattle.model.specs.Certificate.{certificateLength, checkOf}
+use Rattle.model.specs.Writing.{writeItem}
+use Rattle.exports.specs.Exported.{Writes, Exported, Finishes}
 
 module _ (table r f : List ℕ) (work : List ℤ) (mapping : List ℕ) (work′ : List ℤ) (mapping′ : List ℕ) (refusal : ℕ) (w : ℤ) (e : Exported table r f work mapping work′ mapping′ refusal w) where
   -- the first number is the first item that applies, 0 for none
@@ -57,3 +59,23 @@ module _ (j : JobRecord) (table r f : List ℕ) (work : List ℤ) (mapping mappi
   mapping-left z =
       let m = e .call .finished (sym finish-refusal-is ∙ z) in
       (m .legal, e .weighs ∙ m .weighs, m .heaviest)
+
+module _ (table r f : List ℕ) (work : List ℤ) (certificate : List ℕ) (work′ : List ℤ) (certificate′ : List ℕ) (refusal l : ℕ) (e : Writes table r f work certificate work′ certificate′ refusal l) where
+  -- the first number is the first item that applies, 0 for none
+  pub write-refusal-is : refusal ≡ writeItem table r f work certificate
+  write-refusal-is =
+      let i = writeItem table r f work certificate in
+      e .number ∙ ⊎-elim (λ z. e .call .written z .number ∙ sym z) (λ n. e .call .refused n .number) (same? i 0)
+
+  -- where it is not 0, the second is 0 and nothing has changed
+  pub write-refused-keeps : refusal ≢ 0 → (l ≡ 0) × (work′ ≡ work) × (certificate′ ≡ certificate)
+  write-refused-keeps n =
+      let t = e .call .refused (λ z. n (write-refusal-is ∙ z)) in
+      (e .measures ∙ t .measures, t .work-kept, t .certificate-kept)
+
+  -- where it is 0, the front of the buffer, as long as the second says, is a certificate that the check accepts
+  pub certificate-left : refusal ≡ 0 → (l ≡ certificateLength r f) × (checkOf table r f (take l certificate′) ≡ 0)
+  certificate-left z =
+      let m = e .call .written (sym write-refusal-is ∙ z) in
+      let long = e .measures ∙ m .measures in
+      (long, ap (λ (x : ℕ). checkOf table r f (take x certificate′)) long ∙ m .accepted)

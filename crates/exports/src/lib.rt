@@ -1,10 +1,10 @@
 //! The C interface: what a C or Rust program calls, as numbers, slices and plain structs. The work is done in the other crates.
+pub mod certificate_calls;
 pub mod job_calls;
 
 use model::MatchAnswer;
 ghost use mathlib.Core.Path.{_≡_};
 ghost use Rattle.model.specs.Match.{refusalOf, weightOf};
-ghost use Rattle.model.specs.Certificate.{checkOf};
 ghost use Rattle.exports.specs.Exported.{Exported};
 
 // A match's answer as two numbers: the item that turned the call down, 0 for none, and the mapping's weight, 0 where there is none.
@@ -42,24 +42,4 @@ pub extern "C" fn pensummer_match(
 {
     let a = one_call::match_trees(table, recorded, found, work, mapping);
     numbers(a)
-}
-
-// A written certificate as two numbers: the item that turned the call down, 0 for none, and its length in bytes.
-#[repr(C)]
-pub struct WriteResult {
-    pub refusal: u32,
-    pub length: u32,
-}
-
-// Checks a certificate: 0 for accepted, else the item that turned it down. What an accepted one shows: `certificate-sound` (crates/certificate).
-#[no_mangle]
-pub extern "C" fn pensummer_check(
-    table: &[u8],
-    recorded: &[u8],
-    found: &[u8],
-    certificate: &[u8],
-) -> u32
-    ensures { λ r. ⌜ r ≡ checkOf (now (table .entry)) (now (recorded .entry)) (now (found .entry)) (now (certificate .entry)) ⌝ }
-{
-    check_reader::check_certificate(table, recorded, found, certificate)
 }
