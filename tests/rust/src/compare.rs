@@ -58,6 +58,11 @@ fn junk_bytes(room: usize, random: &mut Random) -> Lent<u8> {
     Lent::junk(room, || random.byte())
 }
 
+/// Has the compiler look at this memory again after a call; of what is lent to be read only it could take for granted that it stays.
+fn look_again<T>(lent: &mut T) {
+    std::hint::black_box(lent);
+}
+
 /// A plant with all that the comparison needs of it.
 pub struct Solved {
     pub plant: Plant,
@@ -90,8 +95,9 @@ impl Solved {
 pub fn match_trees(inputs: &Inputs, work_room: usize, mapping_room: usize, random: &mut Random) -> Result<Vec<u8>, u32> {
     let expected =
         Solved::read(inputs).and_then(|s| s.enough_work(work_room)).and_then(|s| if mapping_room < s.plant.n() { Err(18) } else { Ok(s) });
-    let (lent, mut work, mut mapping) = (inputs.clone(), junk_numbers(work_room, random), junk_bytes(mapping_room, random));
+    let (mut lent, mut work, mut mapping) = (inputs.clone(), junk_numbers(work_room, random), junk_bytes(mapping_room, random));
     let result = calls::match_trees(&lent, work.lend(), mapping.lend());
+    look_again(&mut lent);
     assert!(lent == *inputs, "match changed its inputs{inputs:?}");
     match expected {
         Err(item) => {
@@ -116,8 +122,9 @@ pub fn match_trees(inputs: &Inputs, work_room: usize, mapping_room: usize, rando
 /// Starting: items 1 to 13.
 pub fn start(job: &mut JobRecord, inputs: &Inputs, work: &[i32], random: &mut Random) -> Result<(), u32> {
     let expected = Plant::read(inputs).and_then(|p| if work.len() < p.subproblems() { Err(13) } else { Ok(p) });
-    let (lent, mut work, before) = (inputs.clone(), Lent::holding(work, || random.number()), *job);
+    let (mut lent, mut work, before) = (inputs.clone(), Lent::holding(work, || random.number()), *job);
     let refusal = calls::start(job, &lent, work.lend());
+    look_again(&mut (&mut lent, &mut work));
     assert!(lent == *inputs, "start changed its inputs{inputs:?}");
     assert!(work.unchanged(), "start changed a work number{inputs:?}");
     match expected {
@@ -164,8 +171,9 @@ fn job_items(job: &JobRecord, inputs: &Inputs, work: &[i32]) -> Result<(Plant, O
 /// An advance: items 1 to 16. Works on the caller's work numbers; gives back the refusal, or how many subproblems were solved.
 pub fn advance(job: &mut JobRecord, inputs: &Inputs, budget: u32, work: &mut [i32], random: &mut Random) -> Result<u32, u32> {
     let expected = job_items(job, inputs, work);
-    let (copy, mut lent_work, before) = (inputs.clone(), Lent::holding(work, || random.number()), *job);
+    let (mut copy, mut lent_work, before) = (inputs.clone(), Lent::holding(work, || random.number()), *job);
     let result = calls::advance(job, &copy, budget, lent_work.lend());
+    look_again(&mut copy);
     assert!(copy == *inputs, "advance changed its inputs{inputs:?}");
     match expected {
         Err(item) => {
@@ -205,9 +213,10 @@ pub fn finish(job: &JobRecord, inputs: &Inputs, work: &[i32], mapping_room: usiz
             Ok((plant, order))
         }
     });
-    let (copy, mut work, mut mapping, lent) =
+    let (mut copy, mut work, mut mapping, mut lent) =
         (inputs.clone(), Lent::holding(work, || random.number()), junk_bytes(mapping_room, random), *job);
     let result = calls::finish(&lent, &copy, work.lend(), mapping.lend());
+    look_again(&mut (&mut copy, &mut work, &mut lent));
     assert!(copy == *inputs && lent == *job, "finish changed its inputs or the record{inputs:?}");
     assert!(work.unchanged(), "finish changed a work number{inputs:?}");
     match expected {
@@ -242,8 +251,9 @@ pub fn write(inputs: &Inputs, work_room: usize, certificate_room: usize, random:
             Ok(s)
         }
     });
-    let (lent, mut work, mut bytes) = (inputs.clone(), junk_numbers(work_room, random), junk_bytes(certificate_room, random));
+    let (mut lent, mut work, mut bytes) = (inputs.clone(), junk_numbers(work_room, random), junk_bytes(certificate_room, random));
     let result = calls::write(&lent, work.lend(), bytes.lend());
+    look_again(&mut lent);
     assert!(lent == *inputs, "write changed its inputs{inputs:?}");
     match expected {
         Err(item) => {
@@ -285,8 +295,9 @@ pub fn check(inputs: &Inputs, certificate: &[u8]) -> u32 {
 
 /// The check must give this number.
 pub fn check_gives(inputs: &Inputs, certificate: &[u8], item: u32) -> u32 {
-    let (lent, lent_certificate) = (inputs.clone(), certificate.to_vec());
+    let (mut lent, mut lent_certificate) = (inputs.clone(), certificate.to_vec());
     let result = calls::check(&lent, &lent_certificate);
+    look_again(&mut (&mut lent, &mut lent_certificate));
     assert!(lent == *inputs && lent_certificate == certificate, "check changed what it was lent{inputs:?}");
     assert_eq!(result, item, "check{inputs:?}\n certificate {}", crate::reading::hex(certificate));
     item

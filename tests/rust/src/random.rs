@@ -25,7 +25,8 @@ impl Random {
         Random(state)
     }
 
-    pub fn next(&mut self) -> u64 {
+    /// Any 64-bit number.
+    pub fn draw(&mut self) -> u64 {
         self.0 = self.0.wrapping_add(0x9E37_79B9_7F4A_7C15);
         let mut z = self.0;
         z = (z ^ (z >> 30)).wrapping_mul(0xBF58_476D_1CE4_E5B9);
@@ -35,7 +36,7 @@ impl Random {
 
     /// A number from 0 to `n - 1`.
     pub fn below(&mut self, n: usize) -> usize {
-        (self.next() >> 11) as usize % n
+        (self.draw() >> 11) as usize % n
     }
 
     /// A number from `low` to `high`, both included.
@@ -49,12 +50,12 @@ impl Random {
     }
 
     pub fn byte(&mut self) -> u8 {
-        self.next() as u8
+        self.draw() as u8
     }
 
     /// Any 32-bit number.
     pub fn number(&mut self) -> i32 {
-        self.next() as i32
+        self.draw() as i32
     }
 
     pub fn pick<'a, T>(&mut self, of: &'a [T]) -> &'a T {

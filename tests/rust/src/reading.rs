@@ -145,7 +145,7 @@ fn read_tree(bytes: &[u8], table: &Table, first: u32) -> Result<Tree, u32> {
     // labels
     let labels: Vec<usize> = (0..n).map(|vertex| bytes[vertex_at(vertex) + 2] as usize).collect();
     let edges: Vec<(usize, usize, usize)> =
-        (0..n - 1).map(|edge| edge_at(edge)).map(|at| (bytes[at + 2] as usize, bytes[at + 3] as usize, bytes[at + 4] as usize)).collect();
+        (0..n - 1).map(edge_at).map(|at| (bytes[at + 2] as usize, bytes[at + 3] as usize, bytes[at + 4] as usize)).collect();
     if labels.iter().any(|&label| label >= table.vertex.len()) || edges.iter().any(|&(_, _, label)| label >= table.edge.len()) {
         return Err(first + 1);
     }

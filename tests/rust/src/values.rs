@@ -32,8 +32,8 @@ impl Order {
         let mut of_v = vec![0; plant.m()];
         for &u in &postorder {
             of_u[u] = subproblems.len();
-            for v in 0..plant.m() {
-                of_v[v] = subproblems.len() - of_u[u];
+            for (v, start) in of_v.iter_mut().enumerate() {
+                *start = subproblems.len() - of_u[u];
                 subproblems.push(Subproblem { u, v, s: v });
                 for &s in &plant.found.neighbours[v] {
                     subproblems.push(Subproblem { u, v, s });

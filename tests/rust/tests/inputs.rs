@@ -16,7 +16,7 @@ fn lending(inputs: &Inputs, random: &mut Random) -> Lending {
     let certificate_room = certificate::length(&solved.plant);
     let certificate = compare::write(inputs, end, certificate_room, random).expect("a written certificate");
     Lending {
-        job: JobRecord { idle: false, n: n as u32, m: m as u32, position: position as u32, total: random.next() as u32 },
+        job: JobRecord { idle: false, n: n as u32, m: m as u32, position: position as u32, total: random.draw() as u32 },
         work: solved.values,
         budget: random.below(40) as u32,
         mapping_room: n,
@@ -25,7 +25,7 @@ fn lending(inputs: &Inputs, random: &mut Random) -> Lending {
     }
 }
 
-fn part<'a>(inputs: &'a mut Inputs, which: usize) -> &'a mut Vec<u8> {
+fn part(inputs: &mut Inputs, which: usize) -> &mut Vec<u8> {
     match which {
         0 => &mut inputs.table,
         1 => &mut inputs.recorded,
@@ -131,7 +131,7 @@ fn random_bytes() {
                     n: random.below(7) as u32,
                     m: random.below(7) as u32,
                     position: random.below(20) as u32,
-                    total: random.next() as u32,
+                    total: random.draw() as u32,
                 };
             }
             if random.once_in(10) {

@@ -15,7 +15,7 @@ fn budget(random: &mut Random) -> u32 {
         0 => 0,
         1 | 2 => 1,
         3 => u32::MAX,
-        4 => random.next() as u32,
+        4 => random.draw() as u32,
         5 | 6 => random.below(100) as u32,
         _ => random.below(12) as u32,
     }
@@ -126,7 +126,7 @@ fn alter(kept: &mut Kept, shapes: &[plants::Shape], random: &mut Random) {
             4 => kept.job.position = kept.job.position.saturating_sub(random.below(5) as u32),
             5 => kept.job.position = (kept.job.n * (3 * kept.job.m).saturating_sub(2)).wrapping_add(random.below(3) as u32).wrapping_sub(1),
             6 => kept.job.total = u32::MAX - random.below(4) as u32,
-            _ => kept.job.position = random.next() as u32,
+            _ => kept.job.position = random.draw() as u32,
         },
         7 | 8 => kept.inputs = plants::relabelled(&kept.inputs, random),
         9 => {
@@ -138,10 +138,11 @@ fn alter(kept: &mut Kept, shapes: &[plants::Shape], random: &mut Random) {
             }
         }
         10 => {
-            // a tree of the same number of vertices
-            let n = kept.inputs.recorded[2] as usize;
-            let shape: Vec<usize> = (0..n).map(|vertex| if vertex == 0 { 0 } else { random.below(vertex) }).collect();
-            kept.inputs.recorded = plants::tree(&shape, kept.inputs.table[2] as usize, kept.inputs.table[3] as usize, random);
+            // another tree of the same number of vertices
+            let (labels, edge_labels) = (kept.inputs.table[2] as usize, kept.inputs.table[3] as usize);
+            let tree = if random.once_in(2) { &mut kept.inputs.recorded } else { &mut kept.inputs.found };
+            let shape = plants::middle_shape(tree[2] as usize, random);
+            *tree = plants::tree(&shape, labels, edge_labels, random);
         }
         11 => {
             let part = match random.below(3) {
@@ -156,7 +157,7 @@ fn alter(kept: &mut Kept, shapes: &[plants::Shape], random: &mut Random) {
             let room = (kept.work.len() + random.below(4)).saturating_sub(random.below(4));
             kept.work.resize(room, random.number());
         }
-        _ => kept.job.total = random.next() as u32,
+        _ => kept.job.total = random.draw() as u32,
     }
 }
 
