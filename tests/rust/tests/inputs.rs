@@ -255,3 +255,37 @@ fn several_faults_at_once() {
     }
     tally.report("several faults at once", 40_000, &[0, 1, 2, 3, 4, 5, 6, 7, 8, 9, 10, 11, 12, 13, 16, 17, 18, 19, 20]);
 }
+
+#[test]
+fn largest_inputs_cut_off_and_damaged() {
+    let mut random = Random::of_test("largest_inputs_cut_off_and_damaged");
+    let shapes = plants::large_shapes(&mut random);
+    let mut tally = Tally::new();
+    for (_, shape) in &shapes {
+        let found = &random.pick(&shapes).1;
+        let inputs = Inputs {
+            table: plants::table(32, 8, Weights::Wide, Weights::Wide, &mut random),
+            recorded: plants::tree(shape, 32, 8, &mut random),
+            found: plants::tree(found, 32, 8, &mut random),
+        };
+        let lending = lending(&inputs, &mut random);
+        for which in 0..3 {
+            let length = part(&mut inputs.clone(), which).len();
+            assert_eq!(length, [4_436, 510, 510][which]);
+            for _ in 0..200 {
+                let cut = if random.once_in(8) { length + 1 + random.below(3) } else { random.below(length) };
+                let mut damaged = inputs.clone();
+                let junk = random.byte();
+                part(&mut damaged, which).resize(cut, junk);
+                tally.add(every_call(&damaged, &lending, &mut random));
+            }
+            for _ in 0..30 {
+                let mut damaged = inputs.clone();
+                let at = random.below(length);
+                part(&mut damaged, which)[at] ^= 1 << random.below(8);
+                tally.add(every_call(&damaged, &lending, &mut random));
+            }
+        }
+    }
+    tally.report("largest inputs", 4_800, &[0, 1, 2, 3, 4, 6, 8, 9, 11, 20]);
+}
