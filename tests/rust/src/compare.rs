@@ -304,6 +304,7 @@ pub fn check_gives(inputs: &Inputs, certificate: &[u8], item: u32) -> u32 {
 }
 
 /// What is lent to a call beside its inputs.
+#[derive(Clone, PartialEq, Eq)]
 pub struct Lending {
     pub job: JobRecord,
     pub work: Vec<i32>,

@@ -36,7 +36,7 @@ impl Written {
     }
 }
 
-/// How often each number was given, and how many damaged certificates there were.
+/// How often each number was given, and how many damaged certificates there were; one that damage left as it was written does not count.
 struct Tally {
     name: &'static str,
     count: usize,
@@ -48,9 +48,12 @@ impl Tally {
         Tally { name, count: 0, by_number: [0; 25] }
     }
 
-    fn add(&mut self, number: u32) {
-        self.count += 1;
-        self.by_number[number as usize] += 1;
+    /// Has both checks look at a damaged certificate.
+    fn add(&mut self, written: &Written, damaged: &[u8]) {
+        if damaged != written.certificate {
+            self.count += 1;
+            self.by_number[written.check(damaged) as usize] += 1;
+        }
     }
 
     /// At least so many, and each of these numbers among them.
@@ -129,7 +132,7 @@ fn single_bits() {
         for bit in chosen {
             let mut damaged = written.certificate.clone();
             damaged[bit / 8] ^= 1 << (bit % 8);
-            tally.add(written.check(&damaged));
+            tally.add(&written, &damaged);
         }
     }
     tally.report(80_000, &[20, 21, 22, 23]);
@@ -152,10 +155,10 @@ fn single_bytes() {
                 2 => damaged[at].wrapping_add(1),
                 _ => random.byte(),
             };
-            tally.add(written.check(&damaged));
+            tally.add(&written, &damaged);
         }
     }
-    tally.report(50_000, &[0, 20, 21, 22, 23]);
+    tally.report(50_000, &[20, 21, 22, 23]);
 }
 
 #[test]
@@ -186,7 +189,7 @@ fn swapped_records() {
                 swapped.extend(&of[b.at + b.length()..]);
                 damaged = swapped;
             }
-            tally.add(written.check(&damaged));
+            tally.add(&written, &damaged);
         }
     }
     tally.report(30_000, &[0, 20, 21, 22, 23]);
@@ -200,17 +203,17 @@ fn certificates_of_other_plants() {
     let mut last = Written::small(&shapes, &mut random);
     while tally.count < 30_000 {
         let written = Written::small(&shapes, &mut random);
-        tally.add(written.check(&last.certificate));
+        tally.add(&written, &last.certificate);
         for _ in 0..4 {
             // the same trees with other labels or weights, both ways
             let other = Written::of(plants::relabelled(&written.inputs, &mut random), &mut random);
-            tally.add(written.check(&other.certificate));
-            tally.add(other.check(&written.certificate));
+            tally.add(&written, &other.certificate);
+            tally.add(&other, &written.certificate);
         }
         // a certificate for the trees the other way round
         let turned =
             Inputs { table: written.inputs.table.clone(), recorded: written.inputs.found.clone(), found: written.inputs.recorded.clone() };
-        tally.add(written.check(&Written::of(turned, &mut random).certificate));
+        tally.add(&written, &Written::of(turned, &mut random).certificate);
         last = written;
     }
     // an honest certificate has the weight of its own largest value, so item 24 is not among them
@@ -338,7 +341,7 @@ fn forged_weights_and_duals() {
     while tally.count < 80_000 {
         let written = Written::small(&shapes, &mut random);
         for _ in 0..40 {
-            tally.add(written.check(&forge(&written, &mut random)));
+            tally.add(&written, &forge(&written, &mut random));
         }
     }
     tally.report(80_000, &[0, 21, 22, 23, 24]);
