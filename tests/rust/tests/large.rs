@@ -1,0 +1,171 @@
+//! Plants of 64 by 64 vertices of several shapes, against the independent dynamic program; the longest certificate is among those written.
+
+use pensummer_tests::calls::{self, JobRecord};
+use pensummer_tests::certificate;
+use pensummer_tests::compare::{self, Solved};
+use pensummer_tests::plants::{self, large_shapes, Shape, Weights, WEIGHTS};
+use pensummer_tests::random::Random;
+use pensummer_tests::reading::{Inputs, Plant};
+
+const VALUES: usize = 64 * 190;
+
+/// A plant of two large shapes with these kinds of weights.
+fn large(recorded: &Shape, found: &Shape, vertex: Weights, edge: Weights, random: &mut Random) -> Inputs {
+    let (labels, edge_labels) = *random.pick(&[(1, 1), (3, 2), (32, 8)]);
+    Inputs {
+        table: plants::table(labels, edge_labels, vertex, edge, random),
+        recorded: plants::tree(recorded, labels, edge_labels, random),
+        found: plants::tree(found, labels, edge_labels, random),
+    }
+}
+
+#[test]
+fn plants_of_middle_size() {
+    let mut random = Random::of_test("plants_of_middle_size");
+    let (mut tried, mut slices, mut damaged, mut refusals) = (0, 0, 0, [0; 25]);
+    for _ in 0..1_500 {
+        // up to 20 vertices a side, sometimes one side up to 64; matchings of up to 8 children with 8 neighbours
+        let (n, m) = match random.below(10) {
+            0 => (1 + random.below(64), 1 + random.below(4)),
+            1 => (1 + random.below(4), 1 + random.below(64)),
+            _ => (1 + random.below(20), 1 + random.below(20)),
+        };
+        let (recorded, found) = (plants::middle_shape(n, &mut random), plants::middle_shape(m, &mut random));
+        let inputs = plants::plant(&recorded, &found, &mut random);
+        let solved = Solved::read(&inputs).expect("an accepted plant");
+        let (values, length) = (solved.values.len(), certificate::length(&solved.plant));
+        compare::match_trees(&inputs, values + random.below(2), n + random.below(2), &mut random).expect("a match");
+        let mut job = calls::fresh();
+        let mut work: Vec<i32> = (0..values).map(|_| random.number()).collect();
+        compare::start(&mut job, &inputs, &work, &mut random).expect("a start");
+        while (job.position as usize) < values {
+            let budget = random.below(values) as u32 / 2 + 1;
+            compare::advance(&mut job, &inputs, budget, &mut work, &mut random).expect("an advance");
+            slices += 1;
+        }
+        assert_eq!(compare::finish(&job, &inputs, &work, n, &mut random), Ok(solved.weight), "{inputs:?}");
+        let written = compare::write(&inputs, values, length + random.below(2), &mut random).expect("a written certificate");
+        let records = certificate::records(&solved.plant, &solved.order);
+        for _ in 0..20 {
+            let mut bytes = written.clone();
+            let at = random.below(length);
+            bytes[at] ^= 1 << random.below(8);
+            let item = certificate::check(&solved.plant, &solved.order, &records, &bytes);
+            refusals[compare::check_gives(&inputs, &bytes, item) as usize] += 1;
+            damaged += 1;
+        }
+        tried += 1;
+    }
+    println!("{tried} plants, {slices} slices, {damaged} damaged certificates with the numbers {refusals:?}");
+}
+
+#[test]
+fn every_pair_of_shapes() {
+    let mut random = Random::of_test("every_pair_of_shapes");
+    let shapes = large_shapes(&mut random);
+    let mut tried = 0;
+    for (_, recorded) in &shapes {
+        for (_, found) in &shapes {
+            let vertex = *random.pick(&[Weights::Wide, Weights::SmallForbidden, Weights::Small, Weights::Positive, Weights::Extremes]);
+            let edge = *random.pick(&[Weights::Wide, Weights::SmallForbidden, Weights::Small, Weights::Positive]);
+            let inputs = large(recorded, found, vertex, edge, &mut random);
+            compare::match_trees(&inputs, VALUES + 1, 65, &mut random).expect("a match");
+            tried += 1;
+        }
+    }
+    println!("{tried} plants");
+}
+
+#[test]
+fn every_kind_of_weights() {
+    let mut random = Random::of_test("every_kind_of_weights");
+    let shapes = large_shapes(&mut random);
+    let (mut tried, mut heaviest) = (0, 0);
+    // ties, all forbidden, the most and the least weights are among them
+    for weights in WEIGHTS {
+        for (name, shape) in &shapes {
+            let inputs = large(shape, shape, weights, weights, &mut random);
+            compare::match_trees(&inputs, VALUES, 64, &mut random).expect("a match");
+            tried += 1;
+            let weight = Solved::read(&inputs).unwrap().weight;
+            match weights {
+                // a tree with itself: everything is mapped
+                Weights::Most => assert_eq!(weight, 127_000_000, "{name}"),
+                Weights::One => assert_eq!(weight, 127, "{name}"),
+                Weights::Forbidden | Weights::Least | Weights::Zero => assert_eq!(weight, 0, "{name}"),
+                _ => {}
+            }
+            heaviest = heaviest.max(weight);
+        }
+    }
+    for (vertex, edge) in [(Weights::Most, Weights::Forbidden), (Weights::Forbidden, Weights::Most), (Weights::Most, Weights::Least)] {
+        for (_, shape) in &shapes {
+            compare::match_trees(&large(shape, shape, vertex, edge, &mut random), VALUES, 64, &mut random).expect("a match");
+            tried += 1;
+        }
+    }
+    assert_eq!(heaviest, 127_000_000);
+    println!("{tried} plants");
+}
+
+#[test]
+fn jobs_in_slices() {
+    let mut random = Random::of_test("large jobs_in_slices");
+    let shapes = large_shapes(&mut random);
+    let mut tried = 0;
+    for (_, shape) in &shapes {
+        let found = &random.pick(&shapes).1;
+        let inputs = large(shape, found, Weights::Wide, Weights::SmallForbidden, &mut random);
+        let solved = Solved::read(&inputs).expect("an accepted plant");
+        let mut job = calls::fresh();
+        let mut work: Vec<i32> = (0..VALUES).map(|_| random.number()).collect();
+        compare::start(&mut job, &inputs, &work, &mut random).expect("a start");
+        while (job.position as usize) < VALUES {
+            let budget = random.below(1_500) as u32;
+            compare::advance(&mut job, &inputs, budget, &mut work, &mut random).expect("an advance");
+        }
+        assert_eq!(job, JobRecord { idle: false, n: 64, m: 64, position: VALUES as u32, total: VALUES as u32 });
+        assert_eq!(work, solved.values);
+        assert_eq!(compare::finish(&job, &inputs, &work, 64, &mut random), Ok(solved.weight));
+        // the same end with every allowed number at its most: the mapping is legal and its weight exact
+        for number in work.iter_mut().filter(|number| **number != i32::MIN) {
+            *number = 127_000_000;
+        }
+        compare::finish(&job, &inputs, &work, 64, &mut random).expect("a finish");
+        // and an advance over them stores no more than the most
+        let mut half = JobRecord { position: VALUES as u32 / 2, ..job };
+        compare::advance(&mut half, &inputs, u32::MAX, &mut work, &mut random).expect("an advance");
+        tried += 1;
+    }
+    println!("{tried} jobs");
+}
+
+#[test]
+fn certificates() {
+    let mut random = Random::of_test("large certificates");
+    let shapes = large_shapes(&mut random);
+    let (mut written, mut longest, mut damaged) = (0, 0, 0);
+    for (name, found) in &shapes {
+        for (_, recorded) in &shapes {
+            let vertex = *random.pick(&[Weights::Wide, Weights::Ties, Weights::Positive, Weights::Extremes, Weights::Forbidden]);
+            let edge = *random.pick(&[Weights::Wide, Weights::Ties, Weights::Positive, Weights::Small]);
+            let inputs = large(recorded, found, vertex, edge, &mut random);
+            let length = certificate::length(&Plant::read(&inputs).unwrap());
+            assert!(length <= certificate::LONGEST);
+            assert_eq!(length == certificate::LONGEST, name.contains("hubs"), "{name}: {length} bytes");
+            assert_eq!(compare::write(&inputs, VALUES, length - 1, &mut random), Err(19));
+            let mut bytes = compare::write(&inputs, VALUES + 1, length + 2, &mut random).expect("a written certificate");
+            assert_eq!(bytes.len(), length);
+            for _ in 0..4 {
+                let at = random.below(length);
+                bytes[at] ^= 1 << random.below(8);
+                compare::check(&inputs, &bytes);
+                damaged += 1;
+            }
+            longest = longest.max(length);
+            written += 1;
+        }
+    }
+    assert_eq!(longest, 278_736);
+    println!("{written} written certificates, the longest of {longest} bytes; {damaged} damaged ones");
+}

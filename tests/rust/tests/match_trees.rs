@@ -1,0 +1,56 @@
+//! The match in one call on random small plants of all shapes, against the exhaustive search and the independent dynamic program.
+
+use pensummer_tests::compare::{self, Solved};
+use pensummer_tests::mapping;
+use pensummer_tests::plants::{self, small_shapes};
+use pensummer_tests::random::Random;
+use pensummer_tests::reading::Plant;
+
+/// Every pair of shapes of 1 to 6 vertices as often as this: 196 pairs, so 20,188 plants.
+const ROUNDS: usize = 103;
+
+#[test]
+fn heaviest_by_exhaustive_search() {
+    let mut random = Random::of_test("heaviest_by_exhaustive_search");
+    let shapes = small_shapes();
+    let (mut tried, mut mappings, mut positive) = (0, 0, 0);
+    for _ in 0..ROUNDS {
+        for recorded in &shapes {
+            for found in &shapes {
+                let inputs = plants::plant(recorded, found, &mut random);
+                let plant = Plant::read(&inputs).expect("an accepted plant");
+                let (heaviest, count) = mapping::search(&plant);
+                // the room is exact or longer
+                let (numbers, bytes) = (plant.subproblems() + random.below(3), plant.n() + random.below(3));
+                let mapping = compare::match_trees(&inputs, numbers, bytes, &mut random).expect("a match");
+                assert_eq!(mapping::weight(&plant, &mapping), heaviest, "the heaviest of {count} mappings{inputs:?}");
+                tried += 1;
+                mappings += count;
+                positive += usize::from(heaviest > 0);
+            }
+        }
+    }
+    assert!(tried >= 20_000 && positive > tried / 2, "{positive} of {tried} plants have a mapping above 0");
+    println!("{tried} plants, {mappings} mappings searched, {positive} plants with a weight above 0");
+}
+
+#[test]
+fn buffers_short_exact_and_long() {
+    let mut random = Random::of_test("buffers_short_exact_and_long");
+    let shapes = small_shapes();
+    let (mut tried, mut refusals) = (0, [0; 25]);
+    for _ in 0..400 {
+        let inputs = plants::small_plant(&shapes, &mut random);
+        let solved = Solved::read(&inputs).expect("an accepted plant");
+        let (values, n) = (solved.values.len(), solved.plant.n());
+        for numbers in [0, values - 1, values, values + 1, values + 7] {
+            for bytes in [0, n - 1, n, n + 1, 64] {
+                let result = compare::match_trees(&inputs, numbers, bytes, &mut random);
+                refusals[result.err().unwrap_or(0) as usize] += 1;
+                tried += 1;
+            }
+        }
+    }
+    assert!(refusals[13] > 0 && refusals[18] > 0 && refusals[0] > 0 && tried == refusals[0] + refusals[13] + refusals[18]);
+    println!("{tried} pairs of buffers");
+}
