@@ -101,11 +101,11 @@ module _ (table r f : List ℕ) (tr : IsTree r) (tf : IsTree f) (work : List ℤ
     abbrev W : Row table r f work q u (to u) (ownS (parent r) on to u)
     W = row u lu o
 
-    has : (c : ℕ) → T (mem c (children r u)) → hasMate r u (W .mates) c ≡ on c
+    has : (c : ℕ) → T (mem c (children r u)) → hasMate (children r u) (W .mates) c ≡ on c
     unfolding hasMate mapped
     has c m = ap (λ (z : ℕ). not (eqb z noVertex)) (sym (W .kids c m))
 
-    mate : (c : ℕ) → T (mem c (children r u)) → mateIn r u (W .mates) c ≡ to c
+    mate : (c : ℕ) → T (mem c (children r u)) → mateIn (children r u) (W .mates) c ≡ to c
     mate c m = sym (W .kids c m)
 
     free : (c : ℕ) → T (mem c (children r u)) → T (on c) → T (mem (to c) (del (ownS (parent r) on to u) (neighbours f (to u))))

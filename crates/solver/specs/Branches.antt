@@ -349,17 +349,10 @@ module _ (k l : ℕ) (weights work : List ℤ) (label base names labels back : L
 
 -- ---- the choice that a matching makes
 
--- the mate of child c in a row of mates, one for each child in its place, 255 for none
-unfoldable pub mateOf : List ℕ → List ℕ → ℕ → ℕ
-mateOf cs mates c = getD mates (place c cs) 0
-
-unfoldable pub mated : List ℕ → List ℕ → ℕ → Bool
-mated cs mates c = not (eqb (mateOf cs mates c) noVertex)
-
 pub record Choice (w : ℕ → ℕ → Weight) (s : ℕ) (cs A mates : List ℕ) : Type 0 where
   pub gain : ℕ → ℕ
-  pub assigned : Assign w cs (del s A) (mated cs mates) (mateOf cs mates) (λ c. pos (gain c))
-  pub heaviest : best w cs (del s A) ≡ some (lsum cs (λ c. pick (mated cs mates c) (pos (gain c))))
+  pub assigned : Assign w cs (del s A) (hasMate cs mates) (mateIn cs mates) (λ c. pos (gain c))
+  pub heaviest : best w cs (del s A) ≡ some (lsum cs (λ c. pick (hasMate cs mates c) (pos (gain c))))
 
 -- row i's mate, by the column p that it has in the answer
 unfoldable pub nameOr : List ℕ → ℕ → ℕ
@@ -417,26 +410,26 @@ module _ (l : ℕ) (g : ℕ → ℕ → ℕ) (m : ℕ → ℕ) (names A : List �
 module _ (k l : ℕ) (weights work : List ℤ) (label base names labels back : List ℕ) (s : ℕ) (g y z m mates : List ℕ)
     (D : Filled k l (gainsOf weights work label base names labels back s) g) (B : Answer k l (cell g) y z m) (M : MatesTo l (cell g) (at m) names k mates) where
   module _ (w : ℕ → ℕ → Weight) (cs A : List ℕ) (S : Stands k l weights work label base names labels back w cs A) where
-    row-of : (c : ℕ) → T (mem c cs) → MateIs l (cell g) (at m) names (place c cs) (mateOf cs mates c)
-    unfolding mateOf
+    row-of : (c : ℕ) → T (mem c cs) → MateIs l (cell g) (at m) names (place c cs) (mateIn cs mates c)
+    unfolding mateIn
     row-of c t = M .get (place c cs) (let h = place-low c cs (mem-occ c cs t) in omega (arith, S .rows))
 
-    has-name : (c : ℕ) → T (mated cs mates c) → mateOf cs mates c ≢ 255
-    unfolding mated
-    has-name c o e = subst (λ (b : Bool). T (not b)) (eq-eqb (mateOf cs mates c) 255 e) o
+    has-name : (c : ℕ) → T (hasMate cs mates c) → mateIn cs mates c ≢ 255
+    unfolding hasMate
+    has-name c o e = subst (λ (b : Bool). T (not b)) (eq-eqb (mateIn cs mates c) 255 e) o
 
-    no-name : (c : ℕ) → mated cs mates c ≡ false → mateOf cs mates c ≡ 255
-    unfolding mated
-    no-name c e = ⊎-elim (λ q. q) (λ q. let t : not (eqb (mateOf cs mates c) 255) ≡ true = rw (ne-eqb (mateOf cs mates c) 255 q) in absurd (true≢false (sym t ∙ e))) (same? (mateOf cs mates c) 255)
+    no-name : (c : ℕ) → hasMate cs mates c ≡ false → mateIn cs mates c ≡ 255
+    unfolding hasMate
+    no-name c e = ⊎-elim (λ q. q) (λ q. let t : not (eqb (mateIn cs mates c) 255) ≡ true = rw (ne-eqb (mateIn cs mates c) 255 q) in absurd (true≢false (sym t ∙ e))) (same? (mateIn cs mates c) 255)
 
-    some-of : (c : ℕ) → T (mem c cs) → T (mated cs mates c) → (0 < gained l (cell g) (at m) (place c cs)) × (mateOf cs mates c ≡ getD A (at m (place c cs)) 0)
-    some-of c t o = mate-some l (cell g) (at m) names A (S .named) (S .vertex) (place c cs) (mateOf cs mates c) (row-of c t) (has-name c o)
+    some-of : (c : ℕ) → T (mem c cs) → T (hasMate cs mates c) → (0 < gained l (cell g) (at m) (place c cs)) × (mateIn cs mates c ≡ getD A (at m (place c cs)) 0)
+    some-of c t o = mate-some l (cell g) (at m) names A (S .named) (S .vertex) (place c cs) (mateIn cs mates c) (row-of c t) (has-name c o)
 
-    mates-chosen : Chosen cs A (cell g) (at m) (mated cs mates)
+    mates-chosen : Chosen cs A (cell g) (at m) (hasMate cs mates)
     unfolding rowGain
     mates-chosen = record {
       yes = λ c t o. rw (S .columns) (some-of c t o .0);
-      no = λ c t e. rw (S .columns) (mate-none l (cell g) (at m) names A (S .named) (S .vertex) (place c cs) (mateOf cs mates c) (row-of c t) (no-name c e));
+      no = λ c t e. rw (S .columns) (mate-none l (cell g) (at m) names A (S .named) (S .vertex) (place c cs) (mateIn cs mates c) (row-of c t) (no-name c e));
     }
 
     mates-choice : Choice w s cs A mates
@@ -446,9 +439,9 @@ module _ (k l : ℕ) (weights work : List ℤ) (label base names labels back : L
         let O = stands-solved k l weights work label base names labels back s g y z m D B S in
         record {
           gain = rowGain cs A (cell g) (at m);
-          assigned = assign-ext w cs (del s A) (mated cs mates) (mated cs mates) (mateOf cs mates) (columnOf cs A (at m)) (λ c. pos (rowGain cs A (cell g) (at m) c)) (λ c t. refl) (λ c t o. some-of c t o .1)
-              (chosen-assign w s cs A (cell g) (at y) (at z) (at m) G O (S .rows-apart) (S .columns-apart) (mated cs mates) mates-chosen);
-          heaviest = chosen-best w s cs A (cell g) (at y) (at z) (at m) G O (S .rows-apart) (S .columns-apart) (mated cs mates) mates-chosen;
+          assigned = assign-ext w cs (del s A) (hasMate cs mates) (hasMate cs mates) (mateIn cs mates) (columnOf cs A (at m)) (λ c. pos (rowGain cs A (cell g) (at m) c)) (λ c t. refl) (λ c t o. some-of c t o .1)
+              (chosen-assign w s cs A (cell g) (at y) (at z) (at m) G O (S .rows-apart) (S .columns-apart) (hasMate cs mates) mates-chosen);
+          heaviest = chosen-best w s cs A (cell g) (at y) (at z) (at m) G O (S .rows-apart) (S .columns-apart) (hasMate cs mates) mates-chosen;
         }
 
   pub mates-of : Mates k l weights work label base names labels back s mates
@@ -456,7 +449,6 @@ module _ (k l : ℕ) (weights work : List ℤ) (label base names labels back : L
 
 -- over the trees
 pub choice-at : (table r f : List ℕ) (work : List ℤ) (u v s : ℕ) (mates : List ℕ) → Choice (branch table r f (recalled r f work) u v) s (children r u) (neighbours f v) mates → ChoiceAt table r f work u v s mates
-unfolding mated mateOf hasMate mateIn
 choice-at table r f work u v s mates c = record {
   gain = c .gain;
   free = c .assigned .free;

@@ -14,18 +14,18 @@ use Rattle.model.specs.Graph.{neighbours}
 use Rattle.model.specs.Order.{children}
 use Rattle.model.specs.Values.{best, branch, recalled}
 
--- the mate of child c of u in a row of mates, one for each child in its place, 255 for none
-unfoldable pub mateIn : List ℕ → ℕ → List ℕ → ℕ → ℕ
-mateIn r u mates c = getD mates (place c (children r u)) 0
+-- the mate of child c in a row of mates, one for each of the children cs in its place, 255 for none
+unfoldable pub mateIn : List ℕ → List ℕ → ℕ → ℕ
+mateIn cs mates c = getD mates (place c cs) 0
 
-unfoldable pub hasMate : List ℕ → ℕ → List ℕ → ℕ → Bool
-hasMate r u mates c = not (eqb (mateIn r u mates c) noVertex)
+unfoldable pub hasMate : List ℕ → List ℕ → ℕ → Bool
+hasMate cs mates c = not (eqb (mateIn cs mates c) noVertex)
 
 -- Different neighbours of v other than s; each pair's branch by the work numbers is a number greater than 0, `gain c`; together they weigh what
 -- the heaviest matching does.
 pub record ChoiceAt (table r f : List ℕ) (work : List ℤ) (u v s : ℕ) (mates : List ℕ) : Type 0 where
   pub gain : ℕ → ℕ
-  pub free : (c : ℕ) → T (mem c (children r u)) → T (hasMate r u mates c) → T (mem (mateIn r u mates c) (del s (neighbours f v)))
-  pub apart : (c d : ℕ) → T (mem c (children r u)) → T (mem d (children r u)) → T (hasMate r u mates c) → T (hasMate r u mates d) → mateIn r u mates c ≡ mateIn r u mates d → c ≡ d
-  pub branches : (c : ℕ) → T (mem c (children r u)) → T (hasMate r u mates c) → branch table r f (recalled r f work) u v c (mateIn r u mates c) ≡ some (pos (gain c))
-  pub heaviest : best (branch table r f (recalled r f work) u v) (children r u) (del s (neighbours f v)) ≡ some (lsum (children r u) (λ c. pick (hasMate r u mates c) (pos (gain c))))
+  pub free : (c : ℕ) → T (mem c (children r u)) → T (hasMate (children r u) mates c) → T (mem (mateIn (children r u) mates c) (del s (neighbours f v)))
+  pub apart : (c d : ℕ) → T (mem c (children r u)) → T (mem d (children r u)) → T (hasMate (children r u) mates c) → T (hasMate (children r u) mates d) → mateIn (children r u) mates c ≡ mateIn (children r u) mates d → c ≡ d
+  pub branches : (c : ℕ) → T (mem c (children r u)) → T (hasMate (children r u) mates c) → branch table r f (recalled r f work) u v c (mateIn (children r u) mates c) ≡ some (pos (gain c))
+  pub heaviest : best (branch table r f (recalled r f work) u v) (children r u) (del s (neighbours f v)) ≡ some (lsum (children r u) (λ c. pick (hasMate (children r u) mates c) (pos (gain c))))
