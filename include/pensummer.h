@@ -1,13 +1,18 @@
 /* The C interface of Pensummer: matching two trees under a weight table, in one call or as a job in slices, and writing and checking a certificate of
  * optimality. Link with libexports.a (`rt staticlib exports`).
  *
- * Every buffer is a pointer and a count of elements; the pointer is not null, not even for a count of 0. Lent buffers do not overlap. `table`,
- * `recorded` and `found` are bytes in the formats of paper 01: a weight table, the tree recorded at commissioning (n vertices) and the one found
- * (m vertices). No function asks anything of their content, keeps a pointer, allocates, or reads or writes past an end.
+ * Every buffer is a pointer and a count of elements. No pointer is null, not even for a count of 0, and each is aligned for its type; the same holds for
+ * a job's record. What a call writes overlaps nothing else that it is lent; what it only reads may be the same twice. `table`, `recorded` and `found` are
+ * bytes in the formats of paper 01: a weight table, the tree recorded at commissioning (n vertices) and the one found (m vertices). No function asks
+ * anything of their content, keeps a pointer, allocates, or reads or writes past an end.
  *
  * A refusal number is 0 where the call was carried out, else the number of the first item of paper 01, "Why a call is turned down", that applies among
- * those that the call tests, in its order. A call that is turned down changes nothing that it was lent. Buffers may be longer than needed: what lies
- * behind is left as it was.
+ * those that the call tests, in its order. A call that is turned down changes nothing that it was lent.
+ *
+ * Work numbers, and the mapping or certificate that a call writes, may have more room than needed: what lies behind is left as it was. A table, a tree, and
+ * a certificate that is checked are refused if their count is not exactly their length: to check what was written, pass the length that was given back.
+ *
+ * The calls need stack: up to 60,000 bytes on x86-64, most for two paths of 64 vertices (docs/BENCHMARKS.md).
  *
  * There are n(3m - 2) subproblems, never more than 12,160. */
 #ifndef PENSUMMER_H
@@ -63,13 +68,14 @@ struct pensummer_match_result pensummer_match(const uint8_t *table, size_t table
 /* A fresh job record: idle, all numbers 0. */
 struct pensummer_job pensummer_fresh(void);
 
-/* Begins a job, also over an earlier one. Tests 1 to 13; gives the refusal number. Clears the idle mark and sets n, m and position 0; the total and
- * all work numbers stay. */
+/* Begins a job, also over an earlier one; a caller's first record is a fresh one. Tests 1 to 13; gives the refusal number. Clears the idle mark, sets n
+ * and m to the trees' vertex counts and the position to 0; the total and all work numbers stay. */
 uint32_t pensummer_start(struct pensummer_job *job, const uint8_t *table, size_t table_len, const uint8_t *recorded, size_t recorded_len,
                          const uint8_t *found, size_t found_len, const int32_t *work, size_t work_len);
 
-/* Solves the smaller of `budget` and what is left. Tests 1 to 16. Fills exactly that many work numbers, from the position on, and adds the count to the
- * position and to the total, which stops at 4,294,967,295. */
+/* Solves the smaller of `budget` and what is left. Tests 1 to 16. Fills exactly that many work numbers, from the position on, each with its subproblem's
+ * value by the numbers before it, as they were lent, and at most 127,000,000; adds the count to the position and to the total, which stops at
+ * 4,294,967,295. */
 struct pensummer_advance_result pensummer_advance(struct pensummer_job *job, const uint8_t *table, size_t table_len,
                                                   const uint8_t *recorded, size_t recorded_len, const uint8_t *found, size_t found_len,
                                                   uint32_t budget, int32_t *work, size_t work_len);
@@ -80,8 +86,8 @@ struct pensummer_match_result pensummer_finish(const struct pensummer_job *job, 
                                                const uint8_t *recorded, size_t recorded_len, const uint8_t *found, size_t found_len,
                                                const int32_t *work, size_t work_len, uint8_t *mapping, size_t mapping_len);
 
-/* Writes a certificate into the front of `certificate`. Tests 1 to 13 and 19. Leaves all values in order in the first n(3m - 2) work numbers. The check
- * accepts what is written. */
+/* Writes a certificate into the front of `certificate`. Tests 1 to 13 and 19. Leaves all values in order in the first n(3m - 2) work numbers. The
+ * certificate holds a heaviest mapping, its weight and all values, and the check accepts it. */
 struct pensummer_write_result pensummer_write(const uint8_t *table, size_t table_len, const uint8_t *recorded, size_t recorded_len,
                                               const uint8_t *found, size_t found_len, int32_t *work, size_t work_len,
                                               uint8_t *certificate, size_t certificate_len);

@@ -8,7 +8,7 @@ mod plants;
 mod proved;
 mod stack;
 
-use plants::{plant, Plant, Random};
+use plants::{equal_paths, plant, Plant, Random};
 use std::hint::black_box;
 use std::time::Instant;
 
@@ -139,6 +139,10 @@ fn main() {
                 worst[call] = worst[call].max(b / a);
             }
         }
+    }
+    let deep = [equal_paths()];
+    for call in 0..CALLS.len() {
+        println!("equal paths, 64 by 64    {:<6} stack {} and {}", CALLS[call], stack_used(call, &deep, by_plain), stack_used(call, &deep, by_proved));
     }
     let lines: Vec<String> = CALLS.iter().zip(worst).map(|(c, w)| format!("{c} {w:.2}")).collect();
     println!("worst ratios: {}", lines.join(", "));

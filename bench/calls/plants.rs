@@ -82,3 +82,16 @@ pub fn plant(shape: &str, n: usize, i: usize, random: &mut Random) -> Plant {
     let (k, l) = (4 + i % 5, 1 + i % 3);
     Plant { table: table(k, l, random), recorded: tree(shape, n, k, l, random), found: tree(shape, n, k, l, random) }
 }
+
+/// Two equal paths of 64 vertices, all of one label: read out to the greatest depth.
+pub fn equal_paths() -> Plant {
+    let mut table = vec![0xB1, 4, 1, 1];
+    for mark in [5, 6] {
+        table.extend([0xB1, mark]);
+        table.extend(1i32.to_le_bytes());
+    }
+    let mut path = vec![0xB1, 1, 64];
+    (0..64).for_each(|_| path.extend([0xB1, 2, 0]));
+    (0..63).for_each(|v| path.extend([0xB1, 3, v, v + 1, 0]));
+    Plant { table, recorded: path.clone(), found: path }
+}

@@ -17,7 +17,10 @@ pub record FrontPassed (table r f z : List ℕ) (next : ℕ) : Type 0 where
   pub weighs : eqZ (weightIn z) (weight table r f (mappingIn r z)) ≡ true
   pub begins : next ≡ 8 + 3 * count r
 
--- the first of these items that applies is the check's answer; 0 says that none does
+-- The first of these items that applies is the check's answer; 0 says that none does. `next` is where the reader then stands: at the records, also where
+-- one of 20 to 22 refuses, or still at the start where the inputs are refused.
 pub record FrontChecked (table r f z : List ℕ) (refusal next : ℕ) : Type 0 where
   pub refused : refusal ≢ 0 → refusal ≡ checkOf table r f z
   pub passed : refusal ≡ 0 → FrontPassed table r f z next
+  pub stays : inputItem table r f ≢ 0 → next ≡ 0
+  pub moves : inputItem table r f ≡ 0 → next ≡ 8 + 3 * count r

@@ -185,8 +185,8 @@ module _ (table r f z : List ℕ) (ok : Bool) (e : ok ≡ shapeOk r f z) where
 
 module _ (table r f z : List ℕ) (next : ℕ) where
   -- one of the items 1 to 12 applies
-  pub checked-input : (i : ℕ) → i ≢ 0 → i ≡ inputItem table r f → FrontChecked table r f z i next
-  checked-input i n e = record { refused = λ m. e ∙ sym (check-input table r f z (λ h. n (e ∙ h))); passed = λ h. absurd (n h) }
+  pub checked-input : next ≡ 0 → (i : ℕ) → i ≢ 0 → i ≡ inputItem table r f → FrontChecked table r f z i next
+  checked-input here i n e = record { refused = λ m. e ∙ sym (check-input table r f z (λ h. n (e ∙ h))); passed = λ h. absurd (n h); stays = λ m. here; moves = λ h. absurd (n (e ∙ h)) }
 
   -- none of them does
   module _ (passes : inputItem table r f ≡ 0) (begins : next ≡ 8 + 3 * count r) where
@@ -197,10 +197,10 @@ module _ (table r f z : List ℕ) (next : ℕ) where
     weighs? = eqZ (weightIn z) (weight table r f (mappingIn r z))
 
     checked : (a b c : Bool) → shapeOk r f z ≡ a → maps? ≡ b → weighs? ≡ c → FrontChecked table r f z (cond a (cond b (cond c 0 22) 21) 20) next
-    checked false b c x y w = record { refused = λ n. sym (check-20 table r f z passes x); passed = λ h. absurd (omega arith) }
-    checked true false c x y w = record { refused = λ n. sym (check-21 table r f z passes x y); passed = λ h. absurd (omega arith) }
-    checked true true false x y w = record { refused = λ n. sym (check-22 table r f z passes x y w); passed = λ h. absurd (omega arith) }
-    checked true true true x y w = record { refused = λ n. absurd (n refl); passed = λ h. record { input = passes; shaped = x; maps = y; weighs = w; begins = begins } }
+    checked false b c x y w = record { refused = λ n. sym (check-20 table r f z passes x); passed = λ h. absurd (omega arith); stays = λ n. absurd (n passes); moves = λ h. begins }
+    checked true false c x y w = record { refused = λ n. sym (check-21 table r f z passes x y); passed = λ h. absurd (omega arith); stays = λ n. absurd (n passes); moves = λ h. begins }
+    checked true true false x y w = record { refused = λ n. sym (check-22 table r f z passes x y w); passed = λ h. absurd (omega arith); stays = λ n. absurd (n passes); moves = λ h. begins }
+    checked true true true x y w = record { refused = λ n. absurd (n refl); passed = λ h. record { input = passes; shaped = x; maps = y; weighs = w; begins = begins }; stays = λ n. absurd (n passes); moves = λ h. begins }
 
     pub checked-later : (k : ℕ) → k ≡ frontItem table r f z → FrontChecked table r f z k next
     unfolding frontItem mappingItem

@@ -1,5 +1,6 @@
 //! The certificate's check with one reader that carries the certificate along (paper 01, "The sheet"): thin functions over the plain ones on the bytes
-//! and a number, `check_front` and `check_records`. A C program calls `check_certificate` with byte buffers.
+//! and a number, `check_front` and `check_records`. `check_certificate` takes byte buffers from C; an archive has its own crate's functions only, so that
+//! a C program finds it as `pensummer_check` (crates/exports).
 use check_front::check_front;
 use check_records::check_records;
 ghost use mathlib.Core.Path.{_≡_};
@@ -12,7 +13,8 @@ pub struct Reader<'a> {
     pub at: usize,
 }
 
-// Reads the front from the certificate's start, and moves the reader on to its records: the refusal number, 0 where nothing refuses yet.
+// Reads the front from the certificate's start, and moves the reader on to its records (not where a table or tree is refused, so that nothing says
+// where they are): the refusal number, 0 where nothing refuses yet.
 pub fn front<'t, 'r, 'f, 's, 'a>(
     table: &'t [u8],
     recorded: &'r [u8],

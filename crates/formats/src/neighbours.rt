@@ -115,8 +115,8 @@ fn place_label(s: &[u8], n: usize, v: u8, w: u8) -> u8
     requires { ⌜ n ≡ count (now s) ⌝ }
     ensures { λ r. ⌜ r ≡ labelOfPlace (now (s .entry)) v w ⌝ }
 {
-    if w == 255 {
-        return 255;
+    if w == model::Limits::NONE {
+        return model::Limits::NONE;
     }
     let j = edge_between(s, n, v, w);
     byte_or_zero(s, 7 + 3 * n + 5 * j)

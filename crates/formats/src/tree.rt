@@ -56,7 +56,7 @@ fn is_sized(s: &[u8]) -> bool
         return false;
     }
     let n = s[2] as usize;
-    ((1 <= n) & (n <= 64)) & (s.len() + 2 == 8 * n)
+    ((1 <= n) & (n <= (model::Limits::VERTICES as usize))) & (s.len() + 2 == 8 * n)
 }
 
 // The number of vertices of a tree of the right length.
@@ -270,7 +270,7 @@ fn are_edges_few(s: &[u8], n: usize) -> bool
     let mut v: usize = 0;
     while v < n {
         let d = degree_of(s, n, v as u8);
-        ok = ok & (d <= 8);
+        ok = ok & (d <= (model::Limits::DEGREE as usize));
         v += 1;
     }
     ok

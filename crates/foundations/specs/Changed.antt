@@ -1,5 +1,5 @@
 -- Arrays of numbers changed in place, one place after the other. Assumes nothing.
-use mathlib.Core.Path.{_≡_, refl, sym, ap, _∙_, subst}
+use mathlib.Core.Path.{_≡_, refl, ap, _∙_, subst}
 use mathlib.Core.List.{List}
 use Prim.Native.Nat.{ℕ, _+_, _≤_, _<_}
 use native.Mathlib.Omega.{arith}
@@ -28,14 +28,6 @@ changed-more {i} {v} {f} {l} {r} C h e = record {
       (getD-set-same r i v 0 (omega (arith, C .size)) ∙ e ∙ ap (f i) (C .rest i (omega arith)));
   rest = λ x lt. getD-set-other r i x v 0 (λ q. omega (arith, q)) ∙ C .rest x (omega arith);
   size = simp length-set (C .size);
-}
-
--- no store, where the value stays
-pub changed-keep : {i : ℕ} {f : ℕ → ℕ → ℕ} {l r : List ℕ} → Changed i f l r → getD r i 0 ≡ f i (getD r i 0) → Changed (i + 1) f l r
-changed-keep {i} {f} {l} {r} C e = record {
-  done = below-more (λ (x : ℕ). getD r x 0 ≡ f x (getD l x 0)) i (C .done) (e ∙ ap (f i) (C .rest i (omega arith)));
-  rest = λ x lt. C .rest x (omega arith);
-  size = C .size;
 }
 
 -- the loop's end

@@ -152,34 +152,3 @@ pigeon (suc k) f h = step (find f (suc k) (f (suc k))) (λ g m. pigeon k g m)
     step : Find f (suc k) (f (suc k)) → ((g : ℕ → ℕ) → ((x : ℕ) → x < suc k → g x < k) → Twice g (suc k)) → Twice f (suc (suc k))
     step (found x l e) r = record { one = x; two = suc k; less = l; low = omega arith; equal = e }
     step (missing m) r = wrap m (r g (λ x l. g-low m x l (ℕ-discrete (f x) k)))
-
--- A one-to-one map of the numbers below k to themselves reaches each.
-pub onto : (k : ℕ) (f : ℕ → ℕ) → ((x : ℕ) → x < k → f x < k) → ((x y : ℕ) → x < y → y < k → f x ≢ f y) → (y : ℕ) → y < k → (x : ℕ) × (x < k) × (f x ≡ y)
-onto k f h one y ly = step (find f k y)
-  where
-    g : ℕ → ℕ
-    g x = cond (eqb x k) y (f x)
-
-    g-low : (x : ℕ) → x < suc k → Dec (x ≡ k) → g x < k
-    g-low x l (yes e) = rw (eq-eqb x k e) ly
-    g-low x l (no e) = rw (ne-eqb x k e) (h x (omega arith))
-
-    clash : ((x : ℕ) → x < k → f x ≢ y) → Twice g (suc k) → ⊥
-    clash m t = pick (ℕ-discrete (t .two) k)
-      where
-        l : t .one < t .two
-        l = t .less
-
-        n : t .two < suc k
-        n = t .low
-
-        left : g (t .one) ≡ f (t .one)
-        left = rw (ne-eqb (t .one) k (λ e. omega (arith, l, n)))
-
-        pick : Dec (t .two ≡ k) → ⊥
-        pick (yes e) = let right : g (t .two) ≡ y = rw (eq-eqb (t .two) k e) in m (t .one) (omega arith) (sym left ∙ t .equal ∙ right)
-        pick (no e) = let right : g (t .two) ≡ f (t .two) = rw (ne-eqb (t .two) k e) in one (t .one) (t .two) l (omega arith) (sym left ∙ t .equal ∙ right)
-
-    step : Find f k y → (x : ℕ) × (x < k) × (f x ≡ y)
-    step (found x l e) = (x, l, e)
-    step (missing m) = absurd (clash m (pigeon k g (λ x l. g-low x l (ℕ-discrete x k))))

@@ -1,7 +1,6 @@
 -- Linear reasoning on the integers by `omega`, through ℕ: `up z` and `dn z` are the positive and the negative part of z. Assumes nothing.
 use mathlib.Core.Path.{_≡_, refl, sym, ap, subst}
 use mathlib.Core.Bool.{Bool, true, false, not, cond}
-use mathlib.Core.Logic.{_⊎_, inl, inr, ⊎-elim}
 use Prim.Native.Nat.{ℕ, zero, suc, _+_, _-_, _≤_, _<_, _^_, min, max}
 use native.Mathlib.Omega.{arith}
 use lib.Dec.{T, leb, ltb, leb→le, le→leb, ltb→lt, lt→ltb, nltb→le, nleb→lt}
@@ -252,66 +251,8 @@ pub ≤ℤ-antisym : {a b : ℤ} → a ≤ℤ b → b ≤ℤ a → a ≡ b
 pub ≤ℤ-trans : {a b c : ℤ} → a ≤ℤ b → b ≤ℤ c → a ≤ℤ c
 ≤ℤ-trans h k = omega int
 
-pub ≤ℤ-total : (a b : ℤ) → (a ≤ℤ b) ⊎ (b ≤ℤ a)
-≤ℤ-total a b = go (leZ a b) refl
-  where
-    go : (t : Bool) → leZ a b ≡ t → (a ≤ℤ b) ⊎ (b ≤ℤ a)
-    go true e = inl (omega ints)
-    go false e = inr (omega ints)
-
 pub +ℤ-mono : {a b c d : ℤ} → a ≤ℤ b → c ≤ℤ d → (a +ℤ c) ≤ℤ (b +ℤ d)
 +ℤ-mono h k = omega int
-
-pub +ℤ-cancel : (a b c : ℤ) → (a +ℤ c) ≤ℤ (b +ℤ c) → a ≤ℤ b
-+ℤ-cancel a b c h = omega int
-
--- ---- the greater of two
-unfoldable pub maxℤ : ℤ → ℤ → ℤ
-maxℤ a b = cond (leZ a b) b a
-
-pub maxℤ-cases : (a b : ℤ) → ((a ≤ℤ b) × (maxℤ a b ≡ b)) ⊎ ((b ≤ℤ a) × (maxℤ a b ≡ a))
-unfolding maxℤ
-maxℤ-cases a b = go (leZ a b) refl
-  where
-    go : (t : Bool) → leZ a b ≡ t → ((a ≤ℤ b) × (cond t b a ≡ b)) ⊎ ((b ≤ℤ a) × (cond t b a ≡ a))
-    go true e = inl (omega ints, refl)
-    go false e = inr (omega ints, refl)
-
-pub maxℤ-left : (a b : ℤ) → a ≤ℤ maxℤ a b
-maxℤ-left a b = ⊎-elim (λ h. omega (int, h .0)) (λ h. omega int) (maxℤ-cases a b)
-
-pub maxℤ-right : (a b : ℤ) → b ≤ℤ maxℤ a b
-maxℤ-right a b = ⊎-elim (λ h. omega int) (λ h. omega int) (maxℤ-cases a b)
-
-pub maxℤ-least : {a b c : ℤ} → a ≤ℤ c → b ≤ℤ c → maxℤ a b ≤ℤ c
-maxℤ-least {a} {b} p q = ⊎-elim (λ h. omega int) (λ h. omega int) (maxℤ-cases a b)
-
--- the greater as a fact for omega: the parts are determined
-pub maxℤ-up : (a b : ℤ) → up (maxℤ a b) ≡ max (up a) (up b)
-maxℤ-up a b = ⊎-elim (λ h. omega (int, canon a, canon b, canon (maxℤ a b))) (λ h. omega (int, canon a, canon b, canon (maxℤ a b))) (maxℤ-cases a b)
-
-pub maxℤ-dn : (a b : ℤ) → dn (maxℤ a b) ≡ min (dn a) (dn b)
-maxℤ-dn a b = ⊎-elim (λ h. omega (int, canon a, canon b, canon (maxℤ a b))) (λ h. omega (int, canon a, canon b, canon (maxℤ a b))) (maxℤ-cases a b)
-
--- the greater of 0 and z is the natural number `up z`
-pub max0 : (z : ℤ) → maxℤ (pos 0) z ≡ pos (up z)
-max0 z = omega (int, canon z, maxℤ-up (pos 0) z, maxℤ-dn (pos 0) z)
-
-pub maxℤ-yes : {a b : ℤ} → a ≤ℤ b → maxℤ a b ≡ b
-maxℤ-yes {a} {b} h = ⊎-elim (λ p. p .1) (λ p. omega int) (maxℤ-cases a b)
-
-pub maxℤ-no : {a b : ℤ} → b ≤ℤ a → maxℤ a b ≡ a
-maxℤ-no {a} {b} h = ⊎-elim (λ p. omega int) (λ p. p .1) (maxℤ-cases a b)
-
--- two integers with the same parts are the same
-pub parts-eq : (a b : ℤ) → up a ≡ up b → dn a ≡ dn b → a ≡ b
-parts-eq a b p q = omega int
-
-pub maxℤ-assoc : (a b c : ℤ) → maxℤ (maxℤ a b) c ≡ maxℤ a (maxℤ b c)
-maxℤ-assoc a b c = parts-eq _ _ (simp maxℤ-up (omega arith)) (simp maxℤ-dn (omega arith))
-
-pub maxℤ-comm : (a b : ℤ) → maxℤ a b ≡ maxℤ b a
-maxℤ-comm a b = parts-eq _ _ (simp maxℤ-up (omega arith)) (simp maxℤ-dn (omega arith))
 
 -- a test of the natural number `up z` is a test of z
 pub leb-up : (z : ℤ) (n : ℕ) → leb (up z) n ≡ leZ z (pos n)

@@ -1,12 +1,12 @@
 -- What the machine's signed operations ask and tell, for numbers that fit. Assumes nothing.
 use mathlib.Core.Path.{_≡_}
-use Prim.Native.Nat.{ℕ, _+_, _<_, _^_}
+use Prim.Native.Nat.{ℕ, _+_, _<_}
 use native.Mathlib.Omega.{arith}
 use lib.Dec.{T}
 use lib.IntN.{ℤ, pos, negsuc, _+ℤ_, _-ℤ_, natAbs}
 use lib.Signed.{mag, nonNeg}
-use mir.Syntax.{Width, w32, w64}
-use mir.Val.{SFits, toZ, ofZ, hbits}
+use mir.Syntax.{w32, w64}
+use mir.Val.{SFits, toZ, ofZ}
 use mir.Facts.{toZ-ofZ, sfits-widen}
 use Rattle.foundations.specs.Int.{up, dn, neg, int, ints}
 
@@ -15,10 +15,6 @@ sfits-64 f = sfits-widen tt f
 
 pub sfits-sum : {a b : ℤ} → SFits w32 a → SFits w32 b → SFits w64 (a +ℤ b)
 sfits-sum f g = omega ints
-
--- a natural number below half the width
-pub sfits-pos : {w : Width} {n : ℕ} → n < 2 ^ hbits w → SFits w (pos n)
-sfits-pos h = record { sfits = h }
 
 -- a cast to an unsigned type asks `T (nonNeg z) × Fits w (natAbs z)`, and gives `natAbs z`
 pub nonneg-out : (z : ℤ) → dn z ≡ 0 → T (nonNeg z)

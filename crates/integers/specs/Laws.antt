@@ -9,16 +9,16 @@ use lib.ListN.{length, getD, length-set}
 use lib.Seq.{getD-set-same, getD-set-other, set-getD}
 use lib.Dec.{T, ltb, eqb, ltb→lt, nltb→le}
 use lib.IntN.{ℤ, pos, negsuc, _+ℤ_, negℤ}
-use lib.Signed.{mag, _≤ℤ_, _<ℤ_, leZ, ltZ}
+use lib.Signed.{_≤ℤ_, _<ℤ_, leZ, ltZ}
 use borrow.Author.Needs.{below-set}
 use borrow.Author.Tests.{lt-ltb, le-ltb, eqb-true, eq-eqb, ne-eqb}
 use mir.Syntax.{w32}
 use mir.Val.{SFits, ofZ}
 use Rattle.foundations.specs.Tests.{and-split, or-split, or-true, same-test}
-use Rattle.foundations.specs.Int.{up, dn, plus, canon, int, ints}
+use Rattle.foundations.specs.Int.{up, dn, int, ints}
 use Rattle.model.specs.Limits.{weightLimit, ceiling, forbidden}
 use Rattle.model.specs.Bytes.{word, signed32, bits32, int32At, putWord, putInt32}
-use Rattle.model.specs.Weights.{isForbidden, inRange, weightOk, gainOf, stored}
+use Rattle.model.specs.Weights.{isForbidden, inRange, weightOk, stored}
 use Rattle.integers.specs.Results.{StoredValue}
 
 -- ---- 32 bits and the integer that they stand for
@@ -152,9 +152,6 @@ module _ (l : List ℕ) (k : ℕ) (h : (i : ℕ) → getD l i 0 < 256) where
   pub int32At-fits : SFits w32 (int32At l k)
   int32At-fits = sfits-signed32 _ (omega (arith, h k, h (k + 1), h (k + 2), h (k + 3)))
 
-  pub int32At-mag : mag (int32At l k) < 2147483648
-  int32At-mag = int32At-fits .sfits
-
 -- ---- the forbidden number
 
 pub isForbidden-true : (z : ℤ) → isForbidden z ≡ true → z ≡ forbidden
@@ -165,9 +162,6 @@ isForbidden-true (negsuc n) e = ap negsuc (eqb-true n 2147483647 e)
 pub isForbidden-holds : (z : ℤ) → z ≡ forbidden → isForbidden z ≡ true
 unfolding isForbidden
 isForbidden-holds z e = rw e
-
-pub isForbidden-false : (z : ℤ) → isForbidden z ≡ false → z ≢ forbidden
-isForbidden-false z e q = true≢false (sym (isForbidden-holds z q) ∙ e)
 
 -- the machine compares bits
 pub forbidden-bits : (z : ℤ) → SFits w32 z → eqb (ofZ w32 z) 2147483648 ≡ isForbidden z
@@ -218,13 +212,6 @@ weightOk-number z e f = simp f at e
 
 -- ---- gains and stored values
 
-pub gainOf-small : (edge value : ℤ) → SFits w32 edge → SFits w32 value → gainOf edge value ≤ 4294967294
-gainOf-small edge value f g = omega (ints, plus edge value, canon (edge +ℤ value))
-
--- a gain is at most the greatest edge weight and value
-pub gainOf-most : (edge value : ℤ) (a b : ℕ) → edge ≤ℤ pos a → value ≤ℤ pos b → gainOf edge value ≤ a + b
-gainOf-most edge value a b h k = omega (int, plus edge value, canon (edge +ℤ value))
-
 stored-cases : (w : ℤ) (t : ℕ) → ((pos ceiling <ℤ (w +ℤ pos t)) × (stored w t ≡ pos ceiling)) ⊎ (((w +ℤ pos t) ≤ℤ pos ceiling) × (stored w t ≡ w +ℤ pos t))
 unfolding stored
 stored-cases w t = go (ltZ (pos ceiling) (w +ℤ pos t)) refl
@@ -232,10 +219,6 @@ stored-cases w t = go (ltZ (pos ceiling) (w +ℤ pos t)) refl
     go : (b : Bool) → ltZ (pos ceiling) (w +ℤ pos t) ≡ b → ((pos ceiling <ℤ (w +ℤ pos t)) × (cond b (pos ceiling) (w +ℤ pos t) ≡ pos ceiling)) ⊎ (((w +ℤ pos t) ≤ℤ pos ceiling) × (cond b (pos ceiling) (w +ℤ pos t) ≡ w +ℤ pos t))
     go true e = inl (omega ints, refl)
     go false e = inr (omega ints, refl)
-
--- below the ceiling nothing is cut off
-pub stored-exact : (w : ℤ) (t : ℕ) → (w +ℤ pos t) ≤ℤ pos ceiling → stored w t ≡ w +ℤ pos t
-stored-exact w t h = ⊎-elim (λ p. let x : ⊥ = omega (int, p .0) in absurd x) (λ p. p .1) (stored-cases w t)
 
 pub stored-least : (w : ℤ) (t : ℕ) → negℤ (pos weightLimit) ≤ℤ w → negℤ (pos weightLimit) ≤ℤ stored w t
 stored-least w t h = ⊎-elim (λ p. omega (int, p .1)) (λ p. omega (int, p .1)) (stored-cases w t)

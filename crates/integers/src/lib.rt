@@ -2,7 +2,6 @@
 ghost use mathlib.Core.Path.{_≡_};
 ghost use mathlib.Core.Bool.{true};
 ghost use Prim.Native.Nat.{_+_, _≤_, _^_};
-ghost use Rattle.foundations.specs.Int.{maxℤ};
 ghost use Rattle.model.specs.Bytes.{word, signed32, bits32, int32, int32At, putWord, putInt32};
 ghost use Rattle.model.specs.Weights.{isForbidden, inRange, weightOk};
 ghost use Rattle.integers.specs.Results.{Gain, StoredValue};
@@ -118,11 +117,4 @@ pub fn stored_value(weight: i32, total: u64) -> i32
     } else {
         s as i32
     }
-}
-
-// The greater of two.
-pub fn greater(a: i32, b: i32) -> i32
-    ensures { λ r. ⌜ r ≡ maxℤ a b ⌝ }
-{
-    if a <= b { b } else { a }
 }

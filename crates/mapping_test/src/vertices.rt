@@ -23,7 +23,7 @@ pub fn is_mapped(mapping: &[u8; 64], u: u8) -> bool
     requires { ⌜ u < 64 ⌝ }
     ensures { λ r. ⌜ r ≡ mapped (now (mapping .entry)) u ⌝ }
 {
-    mapping[u as usize] != 255
+    mapping[u as usize] != model::Limits::NONE
 }
 
 // The pair of u and v is allowed.
@@ -58,7 +58,7 @@ fn vertex_ok(table: &[u8], recorded: &[u8], found: &[u8], mapping: &[u8; 64], u:
     ensures { λ r. ⌜ r ≡ vertexOk (now (table .entry)) (now (recorded .entry)) (now (found .entry)) (now (mapping .entry)) u ⌝ }
 {
     let v = partner_of(mapping, u);
-    if v == 255 {
+    if v == model::Limits::NONE {
         return true;
     }
     let m = vertex_count(found);

@@ -164,7 +164,7 @@ pub fn list_branch(
     requires { ⌜ Room (now recorded) c depth (now mapping) ⌝ }
     ensures { λ _. ⌜ Read (now (table .entry)) (now (recorded .entry)) (now (found .entry)) (now (work .entry)) c x v (now (mapping .entry)) (now (mapping .exit)) ⌝ }
 {
-    if x != 255 {
+    if x != model::Limits::NONE {
         list_pair(
             table,
             recorded,
@@ -193,7 +193,7 @@ pub fn clear(mapping: &mut [u8], n: usize)
 {
     let mut i = 0;
     while i < n {
-        mapping[i] = 255;
+        mapping[i] = model::Limits::NONE;
         i += 1;
     }
 }

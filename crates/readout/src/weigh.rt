@@ -33,7 +33,7 @@ fn vertex_term(table: &[u8], recorded: &[u8], found: &[u8], mapping: &[u8], u: u
     ensures { λ r. ⌜ SumTo 1 (vertexTerm (now (table .entry)) (now (recorded .entry)) (now (found .entry)) (take (count (now (recorded .entry))) (now (mapping .entry))) u) r ⌝ }
 {
     let v = mapping[u];
-    if v == 255 {
+    if v == model::Limits::NONE {
         return 0;
     }
     let i = vertex_label(recorded, vertex_count(recorded), u);
@@ -115,10 +115,10 @@ fn edge_term(
     let n = vertex_count(recorded);
     let a = partner_of(mapping, end_a(recorded, n, j));
     let b = partner_of(mapping, end_b(recorded, n, j));
-    if a == 255 {
+    if a == model::Limits::NONE {
         return 0;
     }
-    if b == 255 {
+    if b == model::Limits::NONE {
         return 0;
     }
     let k = label_between(near, labels, a, b);

@@ -13,14 +13,14 @@ use Rattle.foundations.specs.Tests.{same?}
 use Rattle.model.specs.Calls.{inputItem}
 use Rattle.model.specs.Certificate.{squares, certificateLength, recordLength, recordAt}
 use Rattle.model.specs.Graph.{neighbours}
-use Rattle.model.specs.Order.{children, postorder, choices, width, subproblems, offset, uAt, vAt, sAt}
+use Rattle.model.specs.Order.{children, choices, width, subproblems, offset, uAt, vAt, sAt}
 use Rattle.model.specs.Tree.{count}
 use Rattle.trees.specs.Accepted.{Sound, Whole}
 use Rattle.trees.specs.Neighbours.{few-neighbours}
 use Rattle.trees.specs.Positions.{sub-at, position-of, offset-up, offset-all}
 use Rattle.formats.specs.Inputs.{Accepted, input-accepted}
 use Rattle.certificate.specs.Length.{record-inside, length-most}
-use Rattle.certificate.specs.Places.{othersBefore, rowSize, record-place, row-step, rows-end, record-begins, place-in, row-begins, squares-few}
+use Rattle.certificate.specs.Places.{othersBefore, rowSize, record-place, row-step, record-begins, place-in, row-begins, squares-few}
 use Rattle.solver.specs.Plan.{Ready, Recorded, ready-sides}
 use Rattle.solver.specs.PlanLaws.{KidsTo, kids-are, Located}
 use Rattle.solver.specs.FillLaws.{choiceIn, number-low, number-u, number-v, number-s, number-sub, rest-in}
@@ -109,10 +109,6 @@ module _ {r f : List ℕ} (I : Inputs r f) where
 pub sound-whole : {s : List ℕ} → Sound s → Whole s (count s)
 sound-whole S = let e = S .passed .ends in record { some = e .some; few = e .few; long = e .long }
 
--- the last row's end is the length
-pub begins-end : {r f starts begins sizes sums : List ℕ} → Standing r f starts begins sizes sums → getD begins (count r) 0 ≡ certificateLength r f
-begins-end {r} {f} S = S .rows .begin (count r) (omega arith) ∙ rows-end (S .inputs .table) r f (S .inputs .passes)
-
 -- ---- the sums of squares
 
 pub sums-none : (f sums : List ℕ) → length sums ≡ 65 → getD sums 0 0 ≡ 0 → SumsTo f 0 sums
@@ -155,10 +151,6 @@ unfolding squares
 sums-next {f} {sums} S v d l B e =
     let a : squares f (suc v) ≤ 616 = squares-few f _ _ (S .passed) (suc v) l in
     rw (B .get v (omega arith), e) a
-
--- a sum of squares is small
-pub sums-few : {f sums : List ℕ} {n : ℕ} → Sound f → n ≤ count f → SumsTo f n sums → getD sums n 0 ≤ 616
-sums-few {f} {sums} {n} S l B = let a = B .get n (omega arith) in let b = squares-few f _ _ (S .passed) n l in omega arith
 
 pub sums-last : {f sums : List ℕ} {m : ℕ} → m ≡ count f → SumsTo f (count f) sums → getD sums m 0 ≡ squares f (count f)
 sums-last {f} e B = rw e (B .get (count f) (omega arith))

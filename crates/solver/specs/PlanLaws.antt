@@ -25,8 +25,7 @@ use Rattle.trees.specs.Accepted.{Passed}
 use Rattle.trees.specs.Neighbours.{mem-adjacent, adjacent-mem, adjacent-back, few-neighbours, neighbour-at, free-at, label-at, joined-says, once-neighbours}
 use Rattle.trees.specs.Rooted.{one-above, root-parent, no-self, child-of}
 use Rattle.trees.specs.Positions.{offset-up, position-kid, position-low}
-use Rattle.trees.specs.Visits.{Ordered, Placed, placed-position}
-use Rattle.solver.specs.Plan.{EdgeWeights, Recorded, Found}
+use Rattle.solver.specs.Plan.{EdgeWeights}
 
 -- ---- the edge weights
 
@@ -410,9 +409,3 @@ module _ (f : List ℕ) (K L : ℕ) (p : Passed f K L) (starts : List ℕ) (offs
       first = unfold offset in omega arith
 
 -- ---- what a call has read, from what the functions promise
-
-pub recorded-of : (r : List ℕ) (K L : ℕ) → Passed r K L → (near labels : List (List ℕ)) (order place : List ℕ) (len : ℕ) → near ≡ neighbourTable r → labels ≡ edgeLabelTable r → Ordered r order len → Placed order len place → Recorded r near labels order place
-recorded-of r K L p near labels order place len a b o q = record { neighbours = a; edges = b; ordered = o .get; placed = placed-position r K L p order len o place q }
-
-pub found-of : (f : List ℕ) (near labels : List (List ℕ)) (starts : List ℕ) → near ≡ neighbourTable f → labels ≡ edgeLabelTable f → Starts f (count f) starts → Found f near labels starts
-found-of f near labels starts a b s = record { neighbours = a; edges = b; offsets = s .offsets; small = s .small }

@@ -50,7 +50,7 @@ pub fn taken(row: [u8; 8]) -> usize
 {
     let mut k: usize = 0;
     while k < 8 {
-        if row[k] == 255 {
+        if row[k] == model::Limits::NONE {
             return k;
         }
         k += 1;

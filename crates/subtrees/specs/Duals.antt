@@ -13,9 +13,9 @@ use Rattle.foundations.specs.Sums.{lsum}
 use Rattle.foundations.specs.Tests.{true→T}
 use Rattle.model.specs.Values.{best}
 use Rattle.model.specs.Weights.{Weight, some, _⊑_}
-use Rattle.subtrees.specs.Matching.{Assign, gain, assign-skip, assign-take, best-bounds, best-attained}
+use Rattle.subtrees.specs.Matching.{Assign, gain, assign-skip, assign-take, best-attained}
 use Rattle.subtrees.specs.Problem.{Instance, Choice, branchW, available, Bounding}
-use Rattle.subtrees.specs.WeightLaws.{⊑-antisym}
+
 
 -- weak duality
 module _ (w : ℕ → ℕ → Weight) (on : ℕ → Bool) (to : ℕ → ℕ) (g a b : ℕ → ℤ) where
@@ -44,10 +44,6 @@ pub best-covered : (w : ℕ → ℕ → Weight) (cs A : List ℕ) (a b : ℕ →
 best-covered w cs A a b d p q h =
     let r = best-attained w cs A d in
     rw (r .heaviest) (cover-bounds w (r .on) (r .to) (r .g) a b cs A d (r .assign) p q (λ c t o. h c (r .to c) t (r .assign .free c t o) (r .g c) (r .assign .weighs c t o)))
-
--- and an assignment that weighs as much as duals that cover is a heaviest matching
-pub best-exactly : (w : ℕ → ℕ → Weight) (cs A : List ℕ) (a b : ℕ → ℤ) (on : ℕ → Bool) (to : ℕ → ℕ) (g : ℕ → ℤ) → Distinct cs → ((c : ℕ) → T (mem c cs) → pos 0 ≤ℤ a c) → ((x : ℕ) → T (mem x A) → pos 0 ≤ℤ b x) → ((c x : ℕ) → T (mem c cs) → T (mem x A) → (z : ℤ) → w c x ≡ some z → z ≤ℤ (a c +ℤ b x)) → Assign w cs A on to g → gain cs on g ≡ lsum cs a +ℤ lsum A b → best w cs A ≡ some (gain cs on g)
-best-exactly w cs A a b on to g d p q h s e = ⊑-antisym _ _ (rw e (best-covered w cs A a b d p q h)) (best-bounds w on to g cs A d s)
 
 -- duals for (u, v, s), an allowed pair of weight z
 pub record CoversAt (P : Instance) (val : ℕ → ℕ → ℕ → Weight) (u v s : ℕ) (z : ℤ) : Type 0 where

@@ -32,7 +32,7 @@ cast-refusal : tie.Need-cast-refusal
 cast-refusal c = search needs
 
 returns : tie.Need-returns
-returns c = checked-input _ _ _ _ _ _ (c .if1 .taken) (c .before .input-item .ensures)
+returns c = checked-input _ _ _ _ _ (c .before .before .before .before .before .before .pre) _ (c .if1 .taken) (c .before .input-item .ensures)
 
 edge-weights-requires : tie.Need-edge-weights-requires
 edge-weights-requires c κs = accepted c .weights .sized

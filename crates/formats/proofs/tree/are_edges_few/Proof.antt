@@ -25,6 +25,9 @@ cast-degree-of c = search needs
 degree-of-requires : tie.Need-degree-of-requires Inv-loop μ-loop
 degree-of-requires c κs = search needs
 
+cast-ok : tie.Need-cast-ok Inv-loop μ-loop
+cast-ok c = search needs
+
 add-v : tie.Need-add-v Inv-loop μ-loop
 add-v c = search needs
 
@@ -53,6 +56,7 @@ are-edges-few-spec =
     loop-holds
     cast-degree-of
     degree-of-requires
+    cast-ok
     add-v
     loop-less
     loop-again

@@ -17,6 +17,9 @@ shared-slice-read-n c = search needs
 cast-n : tie.Need-cast-n
 cast-n c = omega (arith, c .shared-slice-known .given 2)
 
+cast-result : tie.Need-cast-result
+cast-result c = search needs
+
 add-result : tie.Need-add-result
 add-result c = search needs
 
@@ -29,4 +32,4 @@ returns-2 c = refl
 
 pub is-sized-spec : {M : Type 1} → statement M
 is-sized-spec =
-    tie.close (tie.spec returns shared-slice-read-n cast-n add-result mul-result returns-2)
+    tie.close (tie.spec returns shared-slice-read-n cast-n cast-result add-result mul-result returns-2)
