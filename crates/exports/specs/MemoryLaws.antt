@@ -77,8 +77,7 @@ module _ (x : JobMemory) (table r f : List ℕ) (work : List ℤ) where
     advance-memory h o k c y work′ eh eo ew ek ec ey =
         let same : o ≡ advanceOf (recordOf x) table r f b work = eo ∙ ap (λ (j : JobRecord). advanceOf j table r f b work) eh in
         let number : k ≡ advanceRefusal (advanceOf (recordOf x) table r f b work .answer) = ek ∙ ap (λ (a : AdvanceOutcome). advanceRefusal (a .answer)) same in
-        let is-item : k ≡ advanceItem (recordOf x) table r f work = number ∙ advance-refusal (recordOf x) table r f work b in
-        (
+        let is-item : k ≡ advanceItem (recordOf x) table r f work = number ∙ advance-refusal (recordOf x) table r f work b in (
           ey ∙ ap (λ (i : ℕ). memoryAfter i x (o .job)) is-item ∙ ap (λ (a : AdvanceOutcome). memoryAfter (advanceItem (recordOf x) table r f work) x (a .job)) same,
           number,
           ec ∙ ap (λ (a : AdvanceOutcome). advanceCount (a .answer)) same,

@@ -102,10 +102,7 @@ fn start_numbers(
     let answer = out.answer;
     let refusal = start_number(answer);
     let left = memory_after(refusal, job, next);
-    StartNumbers {
-        job: left,
-        refusal,
-    }
+    StartNumbers { job: left, refusal }
 }
 
 // Starts the job of the lent record, also over an earlier job: the item that turned the call down, 0 for none.

@@ -12,7 +12,7 @@ memory-of-requires : tie.Need-memory-of-requires
 memory-of-requires c κs = search needs
 
 returns-2 : tie.Need-returns-2
-returns-2 c = 
+returns-2 c =
     let a = c .before .before .args in
     let z : a .refusal ≡ 0 = search needs in
     c .memory-of .ensures ∙ sym (after-accepted (a .refusal) (a .old) (a .job) z)
