@@ -41,10 +41,10 @@ struct pensummer_match_result {
     int32_t weight;
 };
 
-/* A job's state. It belongs to the caller, who lends it to each call. `idle` is true or false: no other byte may stand there. */
+/* A job's state. It belongs to the caller, who lends it to each call. Any bytes may stand in it: 0 in `idle` says that a job is running, any other
+ * number that none is. */
 struct pensummer_job {
-    bool idle;
-    uint32_t n, m, position, total;
+    uint32_t idle, n, m, position, total;
 };
 
 /* count: the subproblems that this call solved, 0 where it was turned down. */

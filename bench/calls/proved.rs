@@ -8,7 +8,7 @@ struct MatchResult {
 
 #[repr(C)]
 pub struct JobRecord {
-    idle: bool,
+    idle: u32,
     n: u32,
     m: u32,
     position: u32,

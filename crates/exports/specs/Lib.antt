@@ -1,3 +1,5 @@
 -- What the exported functions promise.
 pub mod Exported
+pub mod Memory
+pub mod MemoryLaws
 pub mod Numbers

@@ -1,10 +1,11 @@
--- What a caller of the exported match and of the exported finish may conclude from its two numbers. Of a start and an advance the contracts say the
--- definitions themselves, and `start-refusal`, `advance-refusal` and `advance-count` (crates/jobs) what the numbers are. Assumes nothing.
-use mathlib.Core.Path.{_≡_, sym, ap, _∙_}
+-- What a caller of the exported match, of the exported finish and of writing may conclude from the two numbers. Of a start, an advance and the check
+-- the contracts say the definitions themselves; `start-refusal`, `advance-refusal` and `advance-count` (crates/jobs) say what the numbers are, and
+-- MemoryLaws.antt what is left in the caller's record. Assumes nothing.
+use mathlib.Core.Path.{_≡_, sym, ap, _∙_, subst}
 use mathlib.Core.Logic.{_≢_, ⊎-elim}
-use mathlib.Core.List.{List}
-use Prim.Native.Nat.{ℕ}
-use lib.ListN.{take}
+use mathlib.Core.List.{List, _++_}
+use Prim.Native.Nat.{ℕ, _<_}
+use lib.ListN.{take, drop}
 use lib.IntN.{ℤ, pos}
 use Rattle.foundations.specs.Tests.{same?}
 use Rattle.model.specs.declared.JobRecord.{JobRecord}
@@ -12,10 +13,10 @@ use Rattle.model.specs.Tree.{count}
 use Rattle.model.specs.Order.{subproblems}
 use Rattle.model.specs.Calls.{matchItem}
 use Rattle.model.specs.Mapping.{IsMapping, Heaviest, weight}
-use Rattle.model.specs.Values.{values}
+use Rattle.model.specs.Values.{values, valueAt, answer}
 use Rattle.model.specs.Match.{weightOf}
 use Rattle.model.specs.Jobs.{finishItem}
-use Rattle.model.specs.Certificate.{certificateLength, checkOf}
+use Rattle.model.specs.Certificate.{certificateLength, weightIn, mappingIn, valueIn, checkOf}
 use Rattle.model.specs.Writing.{writeItem}
 use Rattle.exports.specs.Exported.{Writes, Exported, Finishes}
 
@@ -73,9 +74,25 @@ module _ (table r f : List ℕ) (work : List ℤ) (certificate : List ℕ) (work
       let t = e .call .refused (λ z. n (write-refusal-is ∙ z)) in
       (e .measures ∙ t .measures, t .work-kept, t .certificate-kept)
 
-  -- where it is 0, the front of the buffer, as long as the second says, is a certificate that the check accepts
-  pub certificate-left : refusal ≡ 0 → (l ≡ certificateLength r f) × (checkOf table r f (take l certificate′) ≡ 0)
+  written-long : refusal ≡ 0 → certificateLength r f ≡ l
+  written-long z = sym (e .measures ∙ e .call .written (sym write-refusal-is ∙ z) .measures)
+
+  -- where it is 0, the front of the buffer, as long as the second says, is a certificate that the check accepts; the rest of the buffer is as it was,
+  -- and all values are left in the work numbers
+  pub certificate-left : refusal ≡ 0
+      → (l ≡ certificateLength r f) × (checkOf table r f (take l certificate′) ≡ 0) × (certificate′ ≡ take l certificate′ ++ drop l certificate) × (work′ ≡ values table r f ++ drop (subproblems r f) work)
   certificate-left z =
       let m = e .call .written (sym write-refusal-is ∙ z) in
-      let long = e .measures ∙ m .measures in
-      (long, ap (λ (x : ℕ). checkOf table r f (take x certificate′)) long ∙ m .accepted)
+      let long = written-long z in
+      (sym long, subst (λ (x : ℕ). checkOf table r f (take x certificate′) ≡ 0) long (m .accepted), subst (λ (x : ℕ). certificate′ ≡ take x certificate′ ++ drop x certificate) long (m .rest), m .values-left)
+
+  -- and it has the value of each subproblem, the answer as its weight, and a heaviest mapping
+  pub certificate-holds : refusal ≡ 0
+      → ((k : ℕ) → k < subproblems r f → valueIn r f (take l certificate′) k ≡ valueAt table r f k) × (weightIn (take l certificate′) ≡ answer table r f) × Heaviest table r f (mappingIn r (take l certificate′))
+  certificate-holds z =
+      let m = e .call .written (sym write-refusal-is ∙ z) in
+      let long = written-long z in (
+        λ k h. subst (λ (x : ℕ). valueIn r f (take x certificate′) k ≡ valueAt table r f k) long (m .values-in k h),
+        subst (λ (x : ℕ). weightIn (take x certificate′) ≡ answer table r f) long (m .weight-in),
+        subst (λ (x : ℕ). Heaviest table r f (mappingIn r (take x certificate′))) long (m .heaviest-in),
+      )

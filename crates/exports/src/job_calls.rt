@@ -1,24 +1,79 @@
-//! The C interface of jobs: each call is a thin function over one that takes the record by value.
+//! The C interface of jobs: each call is a thin function over one that takes the caller's record by value. Any bytes may stand in that record.
 use crate::MatchResult;
 use crate::numbers;
 use model::AdvanceAnswer;
 use model::JobRecord;
 use model::StartAnswer;
 ghost use mathlib.Core.Path.{_≡_};
+ghost use mathlib.Core.Bool.{cond};
 ghost use Rattle.model.specs.Jobs.{freshRecord, startOf, startRefusal, advanceOf, advanceWork, advanceRefusal, advanceCount};
 ghost use Rattle.exports.specs.Exported.{Finishes};
+ghost use Rattle.exports.specs.Memory.{recordOf, memoryOf, memoryAfter, startMemory, advanceMemory};
+
+// The caller's record of a job: 0 in `idle` says that a job is running, any other number that none is.
+#[repr(C)]
+pub struct JobMemory {
+    pub idle: u32,
+    pub n: u32,
+    pub m: u32,
+    pub position: u32,
+    pub total: u32,
+}
+
+// The record that it stands for.
+fn record_of(x: JobMemory) -> JobRecord
+    ensures { λ r. ⌜ r ≡ recordOf x ⌝ }
+{
+    JobRecord {
+        idle: x.idle != 0,
+        n: x.n,
+        m: x.m,
+        position: x.position,
+        total: x.total,
+    }
+}
+
+fn idle_number(idle: bool) -> u32
+    ensures { λ r. ⌜ r ≡ cond idle 1 0 ⌝ }
+{
+    if idle { 1 } else { 0 }
+}
+
+fn memory_of(job: JobRecord) -> JobMemory
+    ensures { λ r. ⌜ r ≡ memoryOf job ⌝ }
+{
+    let idle = idle_number(job.idle);
+    JobMemory {
+        idle,
+        n: job.n,
+        m: job.m,
+        position: job.position,
+        total: job.total,
+    }
+}
+
+// What a call leaves: where it was turned down the old memory, also its `idle` number, else the new record.
+fn memory_after(refusal: u32, old: JobMemory, job: JobRecord) -> JobMemory
+    ensures { λ r. ⌜ r ≡ memoryAfter refusal old job ⌝ }
+{
+    if refusal != 0 {
+        return old;
+    }
+    memory_of(job)
+}
 
 // A record of no job.
 #[no_mangle]
-pub extern "C" fn pensummer_fresh() -> JobRecord
-    ensures { λ r. ⌜ r ≡ freshRecord ⌝ }
+pub extern "C" fn pensummer_fresh() -> JobMemory
+    ensures { λ r. ⌜ r ≡ memoryOf freshRecord ⌝ }
 {
-    JobRecord::fresh()
+    let job = JobRecord::fresh();
+    memory_of(job)
 }
 
-// What a start leaves and answers: the record after the call, and the item that turned it down, 0 for none.
+// What a start leaves and answers: the memory after the call, and the item that turned it down, 0 for none.
 pub struct StartNumbers {
-    pub job: JobRecord,
+    pub job: JobMemory,
     pub refusal: u32,
 }
 
@@ -32,36 +87,35 @@ fn start_number(a: StartAnswer) -> u32
 }
 
 fn start_numbers(
-    job: JobRecord,
+    job: JobMemory,
     table: &[u8],
     recorded: &[u8],
     found: &[u8],
     work: &[i32],
 ) -> StartNumbers
-    ensures { λ r. ⌜ (r .job ≡ startOf job (now (table .entry)) (now (recorded .entry)) (now (found .entry)) (now (work .entry)) .job)
-        × (r .refusal ≡ startRefusal (startOf job (now (table .entry)) (now (recorded .entry)) (now (found .entry)) (now (work .entry)) .answer)) ⌝ }
+    ensures { λ r. ⌜ (r .job ≡ startMemory job (now (table .entry)) (now (recorded .entry)) (now (found .entry)) (now (work .entry)))
+        × (r .refusal ≡ startRefusal (startOf (recordOf job) (now (table .entry)) (now (recorded .entry)) (now (found .entry)) (now (work .entry)) .answer)) ⌝ }
 {
-    let out = jobs::start_core(job, table, recorded, found, work);
-    let after = out.job;
+    let held = record_of(job);
+    let out = jobs::start_core(held, table, recorded, found, work);
+    let next = out.job;
     let answer = out.answer;
     let refusal = start_number(answer);
-    StartNumbers {
-        job: after,
-        refusal,
-    }
+    let left = memory_after(refusal, job, next);
+    StartNumbers { job: left, refusal }
 }
 
 // Starts the job of the lent record, also over an earlier job: the item that turned the call down, 0 for none.
 #[no_mangle]
 pub extern "C" fn pensummer_start(
-    job: &mut JobRecord,
+    job: &mut JobMemory,
     table: &[u8],
     recorded: &[u8],
     found: &[u8],
     work: &[i32],
 ) -> u32
-    ensures { λ r. ⌜ (now (job .exit) ≡ startOf (now (job .entry)) (now (table .entry)) (now (recorded .entry)) (now (found .entry)) (now (work .entry)) .job)
-        × (r ≡ startRefusal (startOf (now (job .entry)) (now (table .entry)) (now (recorded .entry)) (now (found .entry)) (now (work .entry)) .answer)) ⌝ }
+    ensures { λ r. ⌜ (now (job .exit) ≡ startMemory (now (job .entry)) (now (table .entry)) (now (recorded .entry)) (now (found .entry)) (now (work .entry)))
+        × (r ≡ startRefusal (startOf (recordOf (now (job .entry))) (now (table .entry)) (now (recorded .entry)) (now (found .entry)) (now (work .entry)) .answer)) ⌝ }
 {
     let out = start_numbers(*job, table, recorded, found, work);
     *job = out.job;
@@ -77,7 +131,7 @@ pub struct AdvanceResult {
 
 // What an advance leaves and answers.
 pub struct AdvanceNumbers {
-    pub job: JobRecord,
+    pub job: JobMemory,
     pub result: AdvanceResult,
 }
 
@@ -97,39 +151,41 @@ fn advance_result(a: AdvanceAnswer) -> AdvanceResult
 }
 
 fn advance_numbers(
-    job: JobRecord,
+    job: JobMemory,
     table: &[u8],
     recorded: &[u8],
     found: &[u8],
     budget: u32,
     work: &mut [i32],
 ) -> AdvanceNumbers
-    ensures { λ r. ⌜ (r .job ≡ advanceOf job (now (table .entry)) (now (recorded .entry)) (now (found .entry)) budget (now (work .entry)) .job)
-        × (r .result .refusal ≡ advanceRefusal (advanceOf job (now (table .entry)) (now (recorded .entry)) (now (found .entry)) budget (now (work .entry)) .answer))
-        × (r .result .count ≡ advanceCount (advanceOf job (now (table .entry)) (now (recorded .entry)) (now (found .entry)) budget (now (work .entry)) .answer))
-        × (now (work .exit) ≡ advanceWork job (now (table .entry)) (now (recorded .entry)) (now (found .entry)) budget (now (work .entry))) ⌝ }
+    ensures { λ r. ⌜ (r .job ≡ advanceMemory job (now (table .entry)) (now (recorded .entry)) (now (found .entry)) budget (now (work .entry)))
+        × (r .result .refusal ≡ advanceRefusal (advanceOf (recordOf job) (now (table .entry)) (now (recorded .entry)) (now (found .entry)) budget (now (work .entry)) .answer))
+        × (r .result .count ≡ advanceCount (advanceOf (recordOf job) (now (table .entry)) (now (recorded .entry)) (now (found .entry)) budget (now (work .entry)) .answer))
+        × (now (work .exit) ≡ advanceWork (recordOf job) (now (table .entry)) (now (recorded .entry)) (now (found .entry)) budget (now (work .entry))) ⌝ }
 {
-    let out = jobs::advance_core(job, table, recorded, found, budget, work);
-    let after = out.job;
+    let held = record_of(job);
+    let out = jobs::advance_core(held, table, recorded, found, budget, work);
+    let next = out.job;
     let answer = out.answer;
     let result = advance_result(answer);
-    AdvanceNumbers { job: after, result }
+    let left = memory_after(result.refusal, job, next);
+    AdvanceNumbers { job: left, result }
 }
 
 // Advances the job of the lent record: solves the smaller of the budget and what is left.
 #[no_mangle]
 pub extern "C" fn pensummer_advance(
-    job: &mut JobRecord,
+    job: &mut JobMemory,
     table: &[u8],
     recorded: &[u8],
     found: &[u8],
     budget: u32,
     work: &mut [i32],
 ) -> AdvanceResult
-    ensures { λ r. ⌜ (now (job .exit) ≡ advanceOf (now (job .entry)) (now (table .entry)) (now (recorded .entry)) (now (found .entry)) budget (now (work .entry)) .job)
-        × (r .refusal ≡ advanceRefusal (advanceOf (now (job .entry)) (now (table .entry)) (now (recorded .entry)) (now (found .entry)) budget (now (work .entry)) .answer))
-        × (r .count ≡ advanceCount (advanceOf (now (job .entry)) (now (table .entry)) (now (recorded .entry)) (now (found .entry)) budget (now (work .entry)) .answer))
-        × (now (work .exit) ≡ advanceWork (now (job .entry)) (now (table .entry)) (now (recorded .entry)) (now (found .entry)) budget (now (work .entry))) ⌝ }
+    ensures { λ r. ⌜ (now (job .exit) ≡ advanceMemory (now (job .entry)) (now (table .entry)) (now (recorded .entry)) (now (found .entry)) budget (now (work .entry)))
+        × (r .refusal ≡ advanceRefusal (advanceOf (recordOf (now (job .entry))) (now (table .entry)) (now (recorded .entry)) (now (found .entry)) budget (now (work .entry)) .answer))
+        × (r .count ≡ advanceCount (advanceOf (recordOf (now (job .entry))) (now (table .entry)) (now (recorded .entry)) (now (found .entry)) budget (now (work .entry)) .answer))
+        × (now (work .exit) ≡ advanceWork (recordOf (now (job .entry))) (now (table .entry)) (now (recorded .entry)) (now (found .entry)) budget (now (work .entry))) ⌝ }
 {
     let out = advance_numbers(*job, table, recorded, found, budget, work);
     *job = out.job;
@@ -137,30 +193,31 @@ pub extern "C" fn pensummer_advance(
 }
 
 fn finish_result(
-    job: JobRecord,
+    job: JobMemory,
     table: &[u8],
     recorded: &[u8],
     found: &[u8],
     work: &[i32],
     mapping: &mut [u8],
 ) -> MatchResult
-    ensures { λ r. ⌜ Finishes job (now (table .entry)) (now (recorded .entry)) (now (found .entry)) (now (work .entry)) (now (mapping .entry)) (now (mapping .exit)) (r .refusal) (r .weight) ⌝ }
+    ensures { λ r. ⌜ Finishes (recordOf job) (now (table .entry)) (now (recorded .entry)) (now (found .entry)) (now (work .entry)) (now (mapping .entry)) (now (mapping .exit)) (r .refusal) (r .weight) ⌝ }
 {
-    let a = jobs::finish(job, table, recorded, found, work, mapping);
+    let held = record_of(job);
+    let a = jobs::finish(held, table, recorded, found, work, mapping);
     numbers(a)
 }
 
 // Finishes the job of the lent record, which is only read: a mapping in the first n bytes and its exact weight.
 #[no_mangle]
 pub extern "C" fn pensummer_finish(
-    job: &JobRecord,
+    job: &JobMemory,
     table: &[u8],
     recorded: &[u8],
     found: &[u8],
     work: &[i32],
     mapping: &mut [u8],
 ) -> MatchResult
-    ensures { λ r. ⌜ Finishes (now (job .entry)) (now (table .entry)) (now (recorded .entry)) (now (found .entry)) (now (work .entry)) (now (mapping .entry)) (now (mapping .exit)) (r .refusal) (r .weight) ⌝ }
+    ensures { λ r. ⌜ Finishes (recordOf (now (job .entry))) (now (table .entry)) (now (recorded .entry)) (now (found .entry)) (now (work .entry)) (now (mapping .entry)) (now (mapping .exit)) (r .refusal) (r .weight) ⌝ }
 {
     finish_result(*job, table, recorded, found, work, mapping)
 }

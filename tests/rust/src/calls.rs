@@ -10,16 +10,19 @@ pub struct MatchResult {
     pub weight: i32,
 }
 
-/// The caller's record of a job.
+/// The caller's record of a job, which may hold any bytes: 0 in `idle` says that a job is running, any other number that none is.
 #[repr(C)]
 #[derive(Clone, Copy, Debug, PartialEq, Eq)]
 pub struct JobRecord {
-    pub idle: bool,
+    pub idle: u32,
     pub n: u32,
     pub m: u32,
     pub position: u32,
     pub total: u32,
 }
+
+/// Numbers in `idle` that say that none is running.
+pub const IDLE: [u32; 9] = [1, 2, 255, 256, 257, 1 << 16, 1 << 24, 1 << 31, u32::MAX];
 
 /// The answer of an advance: the refusal's number, 0 if none, and then how many subproblems were solved.
 #[repr(C)]

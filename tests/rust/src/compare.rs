@@ -135,7 +135,7 @@ pub fn start(job: &mut JobRecord, inputs: &Inputs, work: &[i32], random: &mut Ra
         }
         Ok(p) => {
             assert_eq!(refusal, 0, "start: refusal{inputs:?}");
-            let started = JobRecord { idle: false, n: p.n() as u32, m: p.m() as u32, position: 0, total: before.total };
+            let started = JobRecord { idle: 0, n: p.n() as u32, m: p.m() as u32, position: 0, total: before.total };
             assert_eq!(*job, started, "start: record{inputs:?}");
             Ok(())
         }
@@ -149,7 +149,7 @@ fn job_items(job: &JobRecord, inputs: &Inputs, work: &[i32]) -> Result<(Plant, O
         return Err(13);
     }
     let (n, m) = (job.n as u64, job.m as u64);
-    if job.idle || !(1..=64).contains(&n) || !(1..=64).contains(&m) || job.position as u64 > n * (3 * m - 2) {
+    if job.idle != 0 || !(1..=64).contains(&n) || !(1..=64).contains(&m) || job.position as u64 > n * (3 * m - 2) {
         return Err(14);
     }
     if n as usize != plant.n() || m as usize != plant.m() {

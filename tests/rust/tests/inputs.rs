@@ -1,7 +1,7 @@
 //! Inputs that no caller should send: cut off, too long, random, damaged or faulty in several ways at once. Every call gives the number of the
 //! first item that applies and leaves all that it was lent as it was.
 
-use pensummer_tests::calls::JobRecord;
+use pensummer_tests::calls::{JobRecord, IDLE};
 use pensummer_tests::certificate;
 use pensummer_tests::compare::{self, every_call, Lending, Solved};
 use pensummer_tests::plants::{self, small_shapes, Weights};
@@ -16,7 +16,7 @@ fn lending(inputs: &Inputs, random: &mut Random) -> Lending {
     let certificate_room = certificate::length(&solved.plant);
     let certificate = compare::write(inputs, end, certificate_room, random).expect("a written certificate");
     Lending {
-        job: JobRecord { idle: false, n: n as u32, m: m as u32, position: position as u32, total: random.draw() as u32 },
+        job: JobRecord { idle: 0, n: n as u32, m: m as u32, position: position as u32, total: random.draw() as u32 },
         work: solved.values,
         budget: random.below(40) as u32,
         mapping_room: n,
@@ -128,7 +128,7 @@ fn random_bytes() {
             }
             if random.once_in(10) {
                 lending.job = JobRecord {
-                    idle: random.once_in(4),
+                    idle: if random.once_in(4) { *random.pick(&IDLE) } else { 0 },
                     n: random.below(7) as u32,
                     m: random.below(7) as u32,
                     position: random.below(20) as u32,

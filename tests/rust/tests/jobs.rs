@@ -1,13 +1,13 @@
 //! Jobs: in random slices they end as the match in one call does; over altered memory they refuse by number or work from what is lent.
 
-use pensummer_tests::calls::{self, JobRecord};
+use pensummer_tests::calls::{self, JobRecord, IDLE};
 use pensummer_tests::compare::{self, Solved};
 use pensummer_tests::plants::{self, small_shapes};
 use pensummer_tests::random::Random;
 use pensummer_tests::reading::{Inputs, Plant, FORBIDDEN};
 use pensummer_tests::values::Order;
 
-const FRESH: JobRecord = JobRecord { idle: true, n: 0, m: 0, position: 0, total: 0 };
+const FRESH: JobRecord = JobRecord { idle: 1, n: 0, m: 0, position: 0, total: 0 };
 
 /// A budget (allowance): often small, sometimes 0 or the most.
 fn budget(random: &mut Random) -> u32 {
@@ -18,6 +18,17 @@ fn budget(random: &mut Random) -> u32 {
         4 => random.draw() as u32,
         5 | 6 => random.below(100) as u32,
         _ => random.below(12) as u32,
+    }
+}
+
+/// A record of any bytes; its total is not so high that a job would meet the limit.
+fn any_record(random: &mut Random) -> JobRecord {
+    JobRecord {
+        idle: random.draw() as u32,
+        n: random.draw() as u32,
+        m: random.draw() as u32,
+        position: random.draw() as u32,
+        total: random.below(1 << 31) as u32,
     }
 }
 
@@ -38,9 +49,9 @@ fn slices_end_as_one_call() {
                 let inputs = plants::plant(recorded, found, &mut random);
                 let solved = Solved::read(&inputs).expect("an accepted plant");
                 let mut work: Vec<i32> = (0..solved.values.len() + random.below(3)).map(|_| random.number()).collect();
-                // some jobs are begun anew, some records are fresh, some are of a job that was left or is done
+                // some records are fresh, some of any bytes, some of a job that was left or is done
                 if random.once_in(4) {
-                    job = calls::fresh();
+                    job = if random.once_in(2) { calls::fresh() } else { any_record(&mut random) };
                 }
                 let before = job.total;
                 compare::start(&mut job, &inputs, &work, &mut random).expect("a start");
@@ -119,7 +130,7 @@ fn alter(kept: &mut Kept, shapes: &[plants::Shape], random: &mut Random) {
             }
         }
         6 => match random.below(8) {
-            0 => kept.job.idle = true,
+            0 => kept.job.idle = *random.pick(&IDLE),
             1 => kept.job.n = *random.pick(&[0, 1, 2, 6, 64, 65, u32::MAX]),
             2 => kept.job.m = *random.pick(&[0, 1, 2, 6, 64, 65, u32::MAX]),
             3 => kept.job.position = kept.job.position.wrapping_add(1),
@@ -212,7 +223,7 @@ fn finish_over_any_numbers() {
         let inputs = plants::small_plant(&shapes, &mut random);
         let solved = Solved::read(&inputs).expect("an accepted plant");
         let (n, m) = (solved.plant.n(), solved.plant.m());
-        let job = JobRecord { idle: false, n: n as u32, m: m as u32, position: solved.values.len() as u32, total: 0 };
+        let job = JobRecord { idle: 0, n: n as u32, m: m as u32, position: solved.values.len() as u32, total: 0 };
         for nearly in [false, true] {
             let mut work = plausible(&solved.plant, &mut random);
             if nearly {
@@ -239,8 +250,9 @@ fn records_and_numbers_at_the_limits() {
         let inputs = plants::small_plant(&shapes, &mut random);
         let solved = Solved::read(&inputs).expect("an accepted plant");
         let (n, m, end) = (solved.plant.n() as u32, solved.plant.m() as u32, solved.values.len() as u32);
-        let right = JobRecord { idle: false, n, m, position: end, total: 7 };
-        let mut records = vec![right, JobRecord { idle: true, ..right }, FRESH];
+        let right = JobRecord { idle: 0, n, m, position: end, total: 7 };
+        let mut records = vec![right, FRESH, any_record(&mut random)];
+        records.extend(IDLE.map(|idle| JobRecord { idle, ..right }));
         for other in [0, 1, 63, 64, 65, 128, 1 << 16, u32::MAX / 3, u32::MAX] {
             records.push(JobRecord { n: other, ..right });
             records.push(JobRecord { m: other, ..right });

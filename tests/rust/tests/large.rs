@@ -124,7 +124,7 @@ fn jobs_in_slices() {
             let budget = random.below(1_500) as u32;
             compare::advance(&mut job, &inputs, budget, &mut work, &mut random).expect("an advance");
         }
-        assert_eq!(job, JobRecord { idle: false, n: 64, m: 64, position: VALUES as u32, total: VALUES as u32 });
+        assert_eq!(job, JobRecord { idle: 0, n: 64, m: 64, position: VALUES as u32, total: VALUES as u32 });
         assert_eq!(work, solved.values);
         assert_eq!(compare::finish(&job, &inputs, &work, 64, &mut random), Ok(solved.weight));
         // the same end with every allowed number at its most: the mapping is legal and its weight exact

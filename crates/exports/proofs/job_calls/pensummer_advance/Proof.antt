@@ -41,11 +41,12 @@ use denote.Triple.Spec.{Meets, tripleOf}
 use denote.Triple.Table.{entered, cited}
 use denote.Triple.Walked.{says, Stays, stay-ref, stay-dropped, gave-slice, walkOf, AllGo, goes-dropped, goes-gave-slice, goes-ref, Walks, ends-at, walked, walk-meets}
 use denote.Exit.{yes}
-use Rattle.model.specs.declared.JobRecord.{JobRecord}
+use Rattle.exports.specs.declared.job_calls.JobMemory.{JobMemory}
 use Rattle.model.specs.declared.AdvanceOutcome.{AdvanceOutcome}
 use Rattle.model.specs.Jobs.{advanceOf, advanceWork, advanceRefusal, advanceCount}
-use Rattle.model.proofs.JobRecord as T
-use Rattle.model.proofs.JobRecord.Laws as T′
+use Rattle.exports.specs.Memory.{recordOf, advanceMemory}
+use Rattle.exports.proofs.job_calls.JobMemory as T
+use Rattle.exports.proofs.job_calls.JobMemory.Laws as T′
 use Rattle.exports.specs.declared.job_calls.AdvanceNumbers.{AdvanceNumbers}
 use Rattle.exports.proofs.job_calls.AdvanceResult as S
 use Rattle.exports.proofs.job_calls.AdvanceResult.Laws as S′
@@ -79,16 +80,16 @@ Core 𝓤 H A mem run = tripleOf 𝓤 H A core.signature (core.spec 𝓤 H A mem
 abbrev R : RattleType
 R = T.the-row
 
-abbrev vals : JobRecord → List Val
+abbrev vals : JobMemory → List Val
 vals = LL.vals T.the-type T′.the-laws
 
 -- the machine value of a slice
 abbrev sl : {X : Type 0} → RefT (List X) → Val
 sl x = sliceVal (x .ptr) (length (x .now))
 
-module _ {M : Type 1} (𝓤 : URA M) (H : Heap 𝓤) (A : Atoms 𝓤) (W : Given 𝓤 H A) (at-mem : Memory → SProp 𝓤) (run : Routine → Fun 𝓤) (κ₀ κ₁ κ₂ κ₃ κ₄ : Lft) (q₀ q₁ q₂ q₃ q₄ : Share) (b o : ℕ) (γ : GName) (h : JobRecord) (x₁ x₂ x₃ : RefT (List ℕ)) (k : ℕ) (x₄ : RefT (List (i32 .Denot))) where
+module _ {M : Type 1} (𝓤 : URA M) (H : Heap 𝓤) (A : Atoms 𝓤) (W : Given 𝓤 H A) (at-mem : Memory → SProp 𝓤) (run : Routine → Fun 𝓤) (κ₀ κ₁ κ₂ κ₃ κ₄ : Lft) (q₀ q₁ q₂ q₃ q₄ : Share) (b o : ℕ) (γ : GName) (h : JobMemory) (x₁ x₂ x₃ : RefT (List ℕ)) (k : ℕ) (x₄ : RefT (List (i32 .Denot))) where
   abbrev Args : Type 0
-  Args = RefT JobRecord × (RefT (List ℕ) × (RefT (List ℕ) × (RefT (List ℕ) × (ℕ × (RefT (List (i32 .Denot)) × Unit {0})))))
+  Args = RefT JobMemory × (RefT (List ℕ) × (RefT (List ℕ) × (RefT (List ℕ) × (ℕ × (RefT (List (i32 .Denot)) × Unit {0})))))
 
   abbrev a : Args
   a = (record { ptr = (b, o); name = γ; now = h }, (x₁, (x₂, (x₃, (k, (x₄, tt))))))
@@ -106,14 +107,14 @@ module _ {M : Type 1} (𝓤 : URA M) (H : Heap 𝓤) (A : Atoms 𝓤) (W : Given
   Post = walkOf 𝓤 H A this.ended stayed (this.clauses 𝓤 H A at-mem run) .post y
 
   abbrev out : AdvanceOutcome
-  out = advanceOf h (x₁ .now) (x₂ .now) (x₃ .now) k (x₄ .now)
+  out = advanceOf (recordOf h) (x₁ .now) (x₂ .now) (x₃ .now) k (x₄ .now)
 
   abbrev done-work : List (i32 .Denot)
-  done-work = advanceWork h (x₁ .now) (x₂ .now) (x₃ .now) k (x₄ .now)
+  done-work = advanceWork (recordOf h) (x₁ .now) (x₂ .now) (x₃ .now) k (x₄ .now)
 
   -- what the core says of its result and of the last list
   abbrev Said : AdvanceNumbers → List (i32 .Denot) → Type 0
-  Said r zs = (r .job ≡ out .job) × (r .result .refusal ≡ advanceRefusal (out .answer)) × (r .result .count ≡ advanceCount (out .answer)) × (zs ≡ done-work)
+  Said r zs = (r .job ≡ advanceMemory h (x₁ .now) (x₂ .now) (x₃ .now) k (x₄ .now)) × (r .result .refusal ≡ advanceRefusal (out .answer)) × (r .result .count ≡ advanceCount (out .answer)) × (zs ≡ done-work)
 
   -- what `advance_numbers`'s triple binds outside
   abbrev to : Core 𝓤 H A at-mem run .Ghost

@@ -37,11 +37,12 @@ use denote.Triple.Spec.{Meets, tripleOf}
 use denote.Triple.Table.{entered, cited}
 use denote.Triple.Walked.{says, Stays, stay-dropped, gave-slice, walkOf, AllGo, goes-dropped, goes-gave-slice, Walks, ends-at, walked, walk-meets}
 use denote.Exit.{yes}
-use Rattle.model.specs.declared.JobRecord.{JobRecord}
-use Rattle.model.proofs.JobRecord as T
-use Rattle.model.proofs.JobRecord.Laws as T′
+use Rattle.exports.specs.declared.job_calls.JobMemory.{JobMemory}
+use Rattle.exports.proofs.job_calls.JobMemory as T
+use Rattle.exports.proofs.job_calls.JobMemory.Laws as T′
 use Rattle.exports.specs.declared.MatchResult.{MatchResult}
 use Rattle.exports.specs.Exported.{Finishes}
+use Rattle.exports.specs.Memory.{recordOf}
 use Rattle.exports.proofs.MatchResult as S
 use Rattle.exports.proofs.MatchResult.Laws as S′
 use Rattle.exports.proofs.job_calls.finish_result as core
@@ -72,16 +73,16 @@ Core 𝓤 H A mem run = tripleOf 𝓤 H A core.signature (core.spec 𝓤 H A mem
 abbrev R : RattleType
 R = T.the-row
 
-abbrev vals : JobRecord → List Val
+abbrev vals : JobMemory → List Val
 vals = LL.vals T.the-type T′.the-laws
 
 -- the machine value of a slice
 abbrev sl : {X : Type 0} → RefT (List X) → Val
 sl x = sliceVal (x .ptr) (length (x .now))
 
-module _ {M : Type 1} (𝓤 : URA M) (H : Heap 𝓤) (A : Atoms 𝓤) (W : Given 𝓤 H A) (at-mem : Memory → SProp 𝓤) (run : Routine → Fun 𝓤) (κ₀ κ₁ κ₂ κ₃ κ₄ κ₅ : Lft) (q₀ q₁ q₂ q₃ q₄ q₅ : Share) (b o : ℕ) (γ : GName) (h : JobRecord) (x₁ x₂ x₃ : RefT (List ℕ)) (x₄ : RefT (List (i32 .Denot))) (x₅ : RefT (List ℕ)) where
+module _ {M : Type 1} (𝓤 : URA M) (H : Heap 𝓤) (A : Atoms 𝓤) (W : Given 𝓤 H A) (at-mem : Memory → SProp 𝓤) (run : Routine → Fun 𝓤) (κ₀ κ₁ κ₂ κ₃ κ₄ κ₅ : Lft) (q₀ q₁ q₂ q₃ q₄ q₅ : Share) (b o : ℕ) (γ : GName) (h : JobMemory) (x₁ x₂ x₃ : RefT (List ℕ)) (x₄ : RefT (List (i32 .Denot))) (x₅ : RefT (List ℕ)) where
   abbrev Args : Type 0
-  Args = RefT JobRecord × (RefT (List ℕ) × (RefT (List ℕ) × (RefT (List ℕ) × (RefT (List (i32 .Denot)) × (RefT (List ℕ) × Unit {0})))))
+  Args = RefT JobMemory × (RefT (List ℕ) × (RefT (List ℕ) × (RefT (List ℕ) × (RefT (List (i32 .Denot)) × (RefT (List ℕ) × Unit {0})))))
 
   abbrev a : Args
   a = (record { ptr = (b, o); name = γ; now = h }, (x₁, (x₂, (x₃, (x₄, (x₅, tt))))))
@@ -100,7 +101,7 @@ module _ {M : Type 1} (𝓤 : URA M) (H : Heap 𝓤) (A : Atoms 𝓤) (W : Given
 
   -- what the core says of its result and of the last list
   abbrev Said : MatchResult → List ℕ → Type 0
-  Said r zs = Finishes h (x₁ .now) (x₂ .now) (x₃ .now) (x₄ .now) (x₅ .now) zs (r .refusal) (r .weight)
+  Said r zs = Finishes (recordOf h) (x₁ .now) (x₂ .now) (x₃ .now) (x₄ .now) (x₅ .now) zs (r .refusal) (r .weight)
 
   -- what `finish_result`'s triple binds outside
   abbrev to : Core 𝓤 H A at-mem run .Ghost

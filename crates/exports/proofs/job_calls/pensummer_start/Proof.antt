@@ -41,11 +41,12 @@ use denote.Triple.Spec.{Meets, tripleOf}
 use denote.Triple.Table.{entered, cited}
 use denote.Triple.Walked.{says, Stays, stay-ref, stay-dropped, walkOf, AllGo, goes-dropped, goes-ref, Walks, ends-at, walked, walk-meets}
 use denote.Exit.{yes}
-use Rattle.model.specs.declared.JobRecord.{JobRecord}
+use Rattle.exports.specs.declared.job_calls.JobMemory.{JobMemory}
 use Rattle.model.specs.declared.StartOutcome.{StartOutcome}
 use Rattle.model.specs.Jobs.{startOf, startRefusal}
-use Rattle.model.proofs.JobRecord as T
-use Rattle.model.proofs.JobRecord.Laws as T′
+use Rattle.exports.specs.Memory.{recordOf, startMemory}
+use Rattle.exports.proofs.job_calls.JobMemory as T
+use Rattle.exports.proofs.job_calls.JobMemory.Laws as T′
 use Rattle.exports.specs.declared.job_calls.StartNumbers.{StartNumbers}
 use Rattle.exports.proofs.job_calls.StartNumbers as O
 use Rattle.exports.proofs.job_calls.StartNumbers.Laws as O′
@@ -77,16 +78,16 @@ Core 𝓤 H A mem run = tripleOf 𝓤 H A core.signature (core.spec 𝓤 H A mem
 abbrev R : RattleType
 R = T.the-row
 
-abbrev vals : JobRecord → List Val
+abbrev vals : JobMemory → List Val
 vals = LL.vals T.the-type T′.the-laws
 
 -- the machine value of a slice
 abbrev sl : {X : Type 0} → RefT (List X) → Val
 sl x = sliceVal (x .ptr) (length (x .now))
 
-module _ {M : Type 1} (𝓤 : URA M) (H : Heap 𝓤) (A : Atoms 𝓤) (W : Given 𝓤 H A) (at-mem : Memory → SProp 𝓤) (run : Routine → Fun 𝓤) (κ₀ κ₁ κ₂ κ₃ κ₄ : Lft) (q₀ q₁ q₂ q₃ q₄ : Share) (b o : ℕ) (γ : GName) (h : JobRecord) (x₁ x₂ x₃ : RefT (List ℕ)) (x₄ : RefT (List (i32 .Denot))) where
+module _ {M : Type 1} (𝓤 : URA M) (H : Heap 𝓤) (A : Atoms 𝓤) (W : Given 𝓤 H A) (at-mem : Memory → SProp 𝓤) (run : Routine → Fun 𝓤) (κ₀ κ₁ κ₂ κ₃ κ₄ : Lft) (q₀ q₁ q₂ q₃ q₄ : Share) (b o : ℕ) (γ : GName) (h : JobMemory) (x₁ x₂ x₃ : RefT (List ℕ)) (x₄ : RefT (List (i32 .Denot))) where
   abbrev Args : Type 0
-  Args = RefT JobRecord × (RefT (List ℕ) × (RefT (List ℕ) × (RefT (List ℕ) × (RefT (List (i32 .Denot)) × Unit {0}))))
+  Args = RefT JobMemory × (RefT (List ℕ) × (RefT (List ℕ) × (RefT (List ℕ) × (RefT (List (i32 .Denot)) × Unit {0}))))
 
   abbrev a : Args
   a = (record { ptr = (b, o); name = γ; now = h }, (x₁, (x₂, (x₃, (x₄, tt)))))
@@ -107,11 +108,11 @@ module _ {M : Type 1} (𝓤 : URA M) (H : Heap 𝓤) (A : Atoms 𝓤) (W : Given
   n = length (x₄ .now)
 
   abbrev out : StartOutcome
-  out = startOf h (x₁ .now) (x₂ .now) (x₃ .now) (x₄ .now)
+  out = startOf (recordOf h) (x₁ .now) (x₂ .now) (x₃ .now) (x₄ .now)
 
   -- what the core says of its result
   abbrev Said : StartNumbers → Type 0
-  Said r = (r .job ≡ out .job) × (r .refusal ≡ startRefusal (out .answer))
+  Said r = (r .job ≡ startMemory h (x₁ .now) (x₂ .now) (x₃ .now) (x₄ .now)) × (r .refusal ≡ startRefusal (out .answer))
 
   -- what `start_numbers`'s triple binds outside
   abbrev to : Core 𝓤 H A at-mem run .Ghost

@@ -1,10 +1,11 @@
--- `start_numbers` gives the record that the core leaves and the number of its answer. Assumes nothing.
-use mathlib.Core.Path.{ap, _∙_}
+-- `start_numbers` gives the memory that the core's answer leaves and the number of that answer. Assumes nothing.
 use borrow.Author.Needs.{needs}
-use Rattle.model.specs.declared.StartOutcome.{StartOutcome}
-use Rattle.model.specs.Jobs.{startRefusal}
+use Rattle.exports.specs.MemoryLaws.{start-memory}
 use Rattle.exports.proofs.job_calls.start_numbers.Statement.{statement}
 use Rattle.exports.proofs.job_calls.start_numbers.Tie as tie
+
+record-of-requires : tie.Need-record-of-requires
+record-of-requires c κs = search needs
 
 start-core-requires : tie.Need-start-core-requires
 start-core-requires c κs = search needs
@@ -12,10 +13,16 @@ start-core-requires c κs = search needs
 start-number-requires : tie.Need-start-number-requires
 start-number-requires c κs = search needs
 
+memory-after-requires : tie.Need-memory-after-requires
+memory-after-requires c κs = search needs
+
 returns : tie.Need-returns
 returns c =
-    let e = c .before .before .start-core .ensures in
-    (ap (λ (o : StartOutcome). o .job) e, c .start-number .ensures ∙ ap (λ (o : StartOutcome). startRefusal (o .answer)) e)
+    let core = c .before .before .before in
+    let a = core .before .before .before .before .before .args in
+    start-memory (a .job) (a .table .now) (a .recorded .now) (a .found .now) (a .work .now)
+    (core .before .record-of .result) (core .start-core .result) (c .before .start-number .result) (c .memory-after .result)
+    (core .before .record-of .ensures) (core .start-core .ensures) (c .before .start-number .ensures) (c .memory-after .ensures)
 
 pub start-numbers-spec : {M : Type 1} → statement M
-start-numbers-spec = tie.close (tie.spec start-core-requires start-number-requires returns)
+start-numbers-spec = tie.close (tie.spec record-of-requires start-core-requires start-number-requires memory-after-requires returns)
