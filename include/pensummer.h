@@ -65,7 +65,7 @@ struct pensummer_match_result pensummer_match(const uint8_t *table, size_t table
                                               const uint8_t *found, size_t found_len, int32_t *work, size_t work_len,
                                               uint8_t *mapping, size_t mapping_len);
 
-/* A fresh job record: idle, all numbers 0. */
+/* A fresh job record: 1 in `idle`, 0 in the others. */
 struct pensummer_job pensummer_fresh(void);
 
 /* Begins a job, also over an earlier one; a caller's first record is a fresh one. Tests 1 to 13; gives the refusal number. Clears the idle mark, sets n

@@ -16,7 +16,6 @@ use Rattle.model.specs.Weights.{Weight, some, _⊑_}
 use Rattle.subtrees.specs.Matching.{Assign, gain, assign-skip, assign-take, best-attained}
 use Rattle.subtrees.specs.Problem.{Instance, Choice, branchW, available, Bounding}
 
-
 -- weak duality
 module _ (w : ℕ → ℕ → Weight) (on : ℕ → Bool) (to : ℕ → ℕ) (g a b : ℕ → ℤ) where
   cover-step : (c : ℕ) (cs A : List ℕ) (t : Bool) → on c ≡ t → Assign w (c ∷ cs) A on to g →
