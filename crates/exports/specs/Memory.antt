@@ -1,6 +1,5 @@
 -- The caller's record of a job, whose `idle` is a number so that any bytes may stand there: the record that it stands for, and what a start and an
 -- advance leave in it.
-use mathlib.Core.Path.{_≡_}
 use mathlib.Core.Bool.{not, cond}
 use mathlib.Core.List.{List}
 use Prim.Native.Nat.{ℕ}

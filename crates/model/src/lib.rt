@@ -27,7 +27,6 @@ impl Limits {
 
 // A job's state, which belongs to the caller (the paper's job record). n and m are the vertices of the recorded and the found tree, position the
 // number of its subproblems solved so far, total that of the subproblems solved in all its jobs.
-#[repr(C)]
 pub struct JobRecord {
     pub idle: bool,
     pub n: u32,
