@@ -2,11 +2,11 @@
 use formats::marks::is_mark;
 use formats::tree::vertex_count;
 use records::certificate_length;
-use records::place_of;
+use records::degree_of;
+use records::record_at;
 use records::record_sizes;
 use records::row_begins;
 use records::square_sums;
-use solver::subproblem::width_of;
 ghost use Prim.Native.Nat.{_+_, _*_, _<_, _≤_};
 ghost use mathlib.Core.Path.{_≡_};
 ghost use mathlib.Core.Bool.{_&&_};
@@ -15,8 +15,10 @@ ghost use lib.ListN.{length};
 ghost use Rattle.foundations.specs.Lists.{every};
 ghost use Rattle.model.specs.Bytes.{byteAt, isMark};
 ghost use Rattle.model.specs.Certificate.{headMark, partnerMark, recordMark, certificateLength, recordAt, shapeOk};
-ghost use Rattle.model.specs.Order.{subproblems};
-ghost use Rattle.records.specs.Places.{Inputs, Laid};
+ghost use Rattle.model.specs.Order.{offset, width, subproblems};
+ghost use Rattle.model.specs.Tree.{count};
+ghost use Rattle.records.specs.Places.{Standing};
+ghost use Rattle.check_front.specs.Marks.{ChoicesOf};
 ghost use Rattle.check_front.specs.Steps.{ForShape};
 
 // A byte as a count.
@@ -67,83 +69,96 @@ fn is_record(z: &[u8], at: usize) -> bool
     is_mark(z, at, b"\xC1\x03")
 }
 
-// n(3m - 2).
-fn subproblem_count(recorded: &[u8], found: &[u8]) -> usize
-    requires { ⌜ Inputs (now recorded) (now found) ⌝ }
-    ensures { λ r. ⌜ (r ≡ subproblems (now (recorded .entry)) (now (found .entry))) × (r ≤ 12160) ⌝ }
-{
-    let n = vertex_count(recorded);
-    let w = width_of(found);
-    n * w
-}
-
-// The record of subproblem k has its mark.
-fn record_marked(
+// The records of the i-th vertex in postorder and v, of degree d, have their mark, one for each choice of s.
+fn choices_marked(
     recorded: &[u8],
     found: &[u8],
-    fnear: &[[u8; 8]; 64],
-    order: &[u8; 64],
     starts: &[usize; 65],
     begins: &[usize; 65],
     sizes: &[usize; 64],
     sums: &[usize; 65],
     z: &[u8],
-    k: usize,
+    i: usize,
+    v: u8,
+    d: usize,
 ) -> bool
-    requires { ⌜ Laid (now recorded) (now found) (now fnear) (now order) (now starts) (now begins) (now sizes) (now sums) ⌝ }
+    requires { ⌜ Standing (now recorded) (now found) (now starts) (now begins) (now sizes) (now sums) ⌝ }
     requires { ⌜ length (now z) ≡ certificateLength (now recorded) (now found) ⌝ }
-    requires { ⌜ k < subproblems (now recorded) (now found) ⌝ }
-    ensures { λ r. ⌜ r ≡ isMark (now (z .entry)) (recordAt (now (recorded .entry)) (now (found .entry)) k) recordMark ⌝ }
+    requires { ⌜ ChoicesOf (now recorded) (now found) i v d ⌝ }
+    ensures { λ r. ⌜ r ≡ every (λ q. isMark (now (z .entry)) (recordAt (now (recorded .entry)) (now (found .entry)) (i * width (now (found .entry)) + (offset (now (found .entry)) v + q))) recordMark) (d + 1) ⌝ }
 {
-    let p = place_of(
-        recorded,
-        found,
-        fnear,
-        order,
-        starts,
-        begins,
-        sizes,
-        sums,
-        k,
-    );
-    let at = p.at;
-    is_record(z, at)
+    let mut ok = true;
+    let mut q: usize = 0;
+    while q <= d {
+        let at = record_at(recorded, found, begins, sizes, sums, starts, i, v, q);
+        let here = is_record(z, at);
+        ok = ok & here;
+        q += 1;
+    }
+    ok
+}
+
+// Those of the i-th vertex in postorder have it; m is the found tree's vertex count.
+fn row_marked(
+    recorded: &[u8],
+    found: &[u8],
+    starts: &[usize; 65],
+    begins: &[usize; 65],
+    sizes: &[usize; 64],
+    sums: &[usize; 65],
+    z: &[u8],
+    i: usize,
+    m: usize,
+) -> bool
+    requires { ⌜ Standing (now recorded) (now found) (now starts) (now begins) (now sizes) (now sums) ⌝ }
+    requires { ⌜ length (now z) ≡ certificateLength (now recorded) (now found) ⌝ }
+    requires { ⌜ (i < count (now recorded)) × (m ≡ count (now found)) ⌝ }
+    ensures { λ r. ⌜ r ≡ every (λ k. isMark (now (z .entry)) (recordAt (now (recorded .entry)) (now (found .entry)) (i * width (now (found .entry)) + k)) recordMark) (width (now (found .entry))) ⌝ }
+{
+    let mut ok = true;
+    let mut v: usize = 0;
+    while v < m {
+        let d = degree_of(found, starts, v);
+        let t = choices_marked(
+            recorded,
+            found,
+            starts,
+            begins,
+            sizes,
+            sums,
+            z,
+            i,
+            v as u8,
+            d,
+        );
+        ok = ok & t;
+        v += 1;
+    }
+    ok
 }
 
 // Every record has its mark.
 fn records_marked(
     recorded: &[u8],
     found: &[u8],
-    fnear: &[[u8; 8]; 64],
-    order: &[u8; 64],
     starts: &[usize; 65],
     begins: &[usize; 65],
     sizes: &[usize; 64],
     sums: &[usize; 65],
     z: &[u8],
 ) -> bool
-    requires { ⌜ Laid (now recorded) (now found) (now fnear) (now order) (now starts) (now begins) (now sizes) (now sums) ⌝ }
+    requires { ⌜ Standing (now recorded) (now found) (now starts) (now begins) (now sizes) (now sums) ⌝ }
     requires { ⌜ length (now z) ≡ certificateLength (now recorded) (now found) ⌝ }
     ensures { λ r. ⌜ r ≡ every (λ k. isMark (now (z .entry)) (recordAt (now (recorded .entry)) (now (found .entry)) k) recordMark) (subproblems (now (recorded .entry)) (now (found .entry))) ⌝ }
 {
-    let all = subproblem_count(recorded, found);
+    let n = vertex_count(recorded);
+    let m = vertex_count(found);
     let mut ok = true;
-    let mut k: usize = 0;
-    while k < all {
-        let here = record_marked(
-            recorded,
-            found,
-            fnear,
-            order,
-            starts,
-            begins,
-            sizes,
-            sums,
-            z,
-            k,
-        );
-        ok = ok & here;
-        k += 1;
+    let mut i: usize = 0;
+    while i < n {
+        let t = row_marked(recorded, found, starts, begins, sizes, sums, z, i, m);
+        ok = ok & t;
+        i += 1;
     }
     ok
 }
@@ -176,16 +191,6 @@ pub fn shape_ok(
     let sums = square_sums(found, starts);
     let sizes = record_sizes(recorded, rnear, rlabels, order, place);
     let begins = row_begins(recorded, found, &sizes, &sums, at + 8 + 3 * n);
-    let records = records_marked(
-        recorded,
-        found,
-        fnear,
-        order,
-        starts,
-        &begins,
-        &sizes,
-        &sums,
-        z,
-    );
+    let records = records_marked(recorded, found, starts, &begins, &sizes, &sums, z);
     head & (partners & records)
 }

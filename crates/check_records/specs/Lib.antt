@@ -4,5 +4,6 @@ pub mod Cover
 pub mod Rules
 pub mod Gains
 pub mod Records
+pub mod PairRecords
 pub mod Greatest
 pub mod Items

@@ -43,24 +43,9 @@ pub record RecordOf (table r f : List ℕ) (numbers : List ℤ) (fnear flabels :
   pub here-is : RecordIs r f k u v s here n l
   pub stands : Standing (certificateLength r f) here n l
 
--- it is the record of some subproblem
-pub record Somewhere (r f : List ℕ) (numbers : List ℤ) (fnear flabels : List (List ℕ)) (place starts label vertex : List ℕ) (v q here n l : ℕ) : Type 0 where
-  pub table : List ℕ
-  pub k : ℕ
-  pub u : ℕ
-  pub s : ℕ
-  pub is : RecordOf table r f numbers fnear flabels place starts label vertex k u v q s here n l
-
--- whichever it is, the test is the model's
-pub record AllowedIs (r f z : List ℕ) (numbers : List ℤ) (fnear flabels : List (List ℕ)) (place starts label vertex : List ℕ) (v q here n l : ℕ) (w : ℤ) (ok : Bool) : Type 0 where
-  pub is : (table : List ℕ) (k u s : ℕ) → RecordOf table r f numbers fnear flabels place starts label vertex k u v q s here n l → vertexPair table r f u v ≡ some w → ok ≡ subproblemOk table r f z k
-
 module _ {table r f : List ℕ} {numbers : List ℤ} {fnear flabels : List (List ℕ)} {place starts label vertex : List ℕ} {k u v q s here n l : ℕ} (R : RecordOf table r f numbers fnear flabels place starts label vertex k u v q s here n l) where
   accepted : Accepted table r f
   accepted = input-accepted table r f (R .sides .passes)
-
-  pub record-low : v < 64
-  record-low = let a : count f ≤ 64 = accepted .found .ends .few in let b = R .sub .v-low in omega arith
 
   pub record-reads : (z : List ℕ) (d : ℕ) (back : List ℕ) → Taken (getD fnear v []) d → BehindTo fnear starts v 8 back → Reads r f place label vertex n (getD fnear v []) (getD flabels v []) back d
   record-reads z d back D B = gains-read table r f z numbers fnear flabels starts (R .sides) u v s (R .sub) place (R .kids .placed) n d label (R .kids .base) vertex back (R .kids .kids) D B
@@ -82,12 +67,6 @@ module _ {table r f : List ℕ} {numbers : List ℤ} {fnear flabels : List (List
       ∙ gain-is table r f z numbers fnear flabels starts (R .sides) u v s (R .sub) place (R .kids .placed) n d label (R .kids .base) vertex back (R .kids .kids) D B i (columnIn q j) hi (omega arith)
       ∙ ap (λ (x : ℕ). upW (branch table r f (valueOf r f z) u v (getD (children r u) i 0) x)) (sym (R .others .get j (omega arith)))
 
-pub allowed-is : (r f z : List ℕ) (numbers : List ℤ) (fnear flabels : List (List ℕ)) (place starts label vertex : List ℕ) (v q here n l : ℕ) (w : ℤ) (d : ℕ) (back g : List ℕ) (ok : Bool) → Taken (getD fnear v []) d → BehindTo fnear starts v 8 back →
-    Filled n d (gainsIn r f z numbers place label vertex (getD flabels v []) back) g → ok ≡ dualsIn z here n l q g w → AllowedIs r f z numbers fnear flabels place starts label vertex v q here n l w ok
-allowed-is r f z numbers fnear flabels place starts label vertex v q here n l w d back g ok D B G e = record {
-  is = λ table k u s R p. e ∙ record-some table r f z k u v s here n l (R .here-is) q g w p (record-gains R z d back g D B G);
-}
-
 -- ---- from what a call has read
 
 module _ {table r f : List ℕ} {numbers : List ℤ} {rnear rlabels fnear flabels : List (List ℕ)} {order place starts : List ℕ} (N : Ready table r f numbers rnear rlabels fnear flabels order place starts) where
@@ -102,10 +81,6 @@ module _ {table r f : List ℕ} {numbers : List ℤ} {rnear rlabels fnear flabel
 
   pub ready-found : Sound f
   ready-found = record { K = _; L = _; passed = ready-accepted .found }
-
-  pub ready-number : {n w : ℕ} → n ≡ count r → w ≡ width f → (n * w ≡ subproblems r f) × (subproblems r f ≤ 12160)
-  unfolding subproblems
-  ready-number a b = (rw (a, b), number-few (ready-sides N))
 
   pub degree-is : (v d : ℕ) → v < count f → Taken (getD fnear v []) d → d ≡ length (neighbours f v)
   degree-is v d lv D = taken-neighbours f _ _ (ready-accepted .found) v d lv (rw (N .found .neighbours) at D)

@@ -1,137 +1,90 @@
 //! Neighbours as eight places for each of 64 vertices, and in the same places the labels of the edges to them.
-use crate::bytes::byte_or_zero;
+use crate::tree::edge_label_at;
 use crate::tree::end_a;
 use crate::tree::end_b;
 use crate::tree::vertex_count;
-ghost use Prim.Native.Nat.{ℕ, _+_, _*_, _<_, _≤_, _-_};
-ghost use lib.ListN.{getD, length};
+ghost use Prim.Native.Nat.{min};
+ghost use lib.Dec.{eqb};
+ghost use lib.ListN.{getD};
 ghost use mathlib.Core.Path.{_≡_};
-ghost use mathlib.Core.Bool.{false, _||_, cond};
-ghost use Rattle.foundations.specs.Lists.{below, tab};
-ghost use Rattle.model.specs.Bytes.{byteAt};
+ghost use mathlib.Core.Bool.{cond};
+ghost use Rattle.foundations.specs.Lists.{tab};
 ghost use Rattle.model.specs.Tree.{count};
-ghost use Rattle.model.specs.Graph.{joins, joinedBy, eight, neighbours, neighbourTable, edgeBefore, edgeOf, edgeLabel, labelOfPlace, edgeLabelTable};
+ghost use Rattle.model.specs.Graph.{neighbourTable, edgeLabelTable};
 ghost use Rattle.trees.specs.Accepted.{Ends};
+ghost use Rattle.formats.specs.Insertion.{carried, putIn};
 
-// The marks of v's neighbours with one edge more.
-fn mark(m: [bool; 64], a: u8, b: u8, v: u8) -> [bool; 64]
-    requires { ⌜ a < 64 ⌝ }
-    requires { ⌜ b < 64 ⌝ }
-    ensures { λ r. ⌜ ((w : ℕ) → w < 64 → getD r w false ≡ (getD m w false || joins a b v w)) ⌝ }
+// The lesser of what a place held and what is carried to it stays.
+fn stays(x: u8, c: u8) -> u8
+    ensures { λ r. ⌜ r ≡ min x c ⌝ }
 {
-    let mut r = m;
-    if a == v {
-        r[b as usize] = true;
+    if x <= c { x } else { c }
+}
+
+// The greater is carried on, and nothing, 255, where the two are the same.
+fn carry(x: u8, c: u8) -> u8
+    ensures { λ r. ⌜ r ≡ carried x c ⌝ }
+{
+    if x == c {
+        return model::Limits::NONE;
     }
-    if b == v {
-        r[a as usize] = true;
+    if x <= c { c } else { x }
+}
+
+// An ascending row with w in its place, unless it has w; what is carried past the last place falls out.
+fn put_in(row: [u8; 8], w: u8) -> [u8; 8]
+    ensures { λ r. ⌜ r ≡ putIn w row ⌝ }
+{
+    let mut r = row;
+    let mut c = w;
+    let mut i: usize = 0;
+    while i < 8 {
+        let x = r[i];
+        let low = stays(x, c);
+        let high = carry(x, c);
+        r[i] = low;
+        c = high;
+        i += 1;
     }
     r
 }
 
-// Which vertices an edge joins to v.
-fn marks(s: &[u8], n: usize, v: u8) -> [bool; 64]
-    requires { ⌜ Ends (now s) n ⌝ }
-    ensures { λ r. ⌜ ((w : ℕ) → w < 64 → getD r w false ≡ joinedBy (now (s .entry)) n v w (n - 1)) ⌝ }
-{
-    let mut m = [false; 64];
-    let mut j = 0;
-    while j + 1 < n {
-        let a = end_a(s, n, j);
-        let b = end_b(s, n, j);
-        let k = mark(m, a, b, v);
-        m = k;
-        j += 1;
-    }
-    m
-}
-
-// The first eight marked vertices below n, ascending, then 255.
-fn row(m: [bool; 64], n: usize) -> [u8; 8]
-    requires { ⌜ n ≤ 64 ⌝ }
-    ensures { λ r. ⌜ r ≡ eight (below (λ w. getD m w false) n) ⌝ }
-{
-    let mut r = [255u8; 8];
-    let mut c: usize = 0;
-    let mut w: usize = 0;
-    while w < n {
-        if m[w] {
-            if c < 8 {
-                r[c] = w as u8;
-                c += 1;
-            }
-        }
-        w += 1;
-    }
-    r
-}
-
-// The neighbours of every vertex of an accepted tree.
+// The neighbours of every vertex of an accepted tree: each edge puts either end into the row of the other.
 pub fn neighbour_table(s: &[u8]) -> [[u8; 8]; 64]
     requires { ⌜ Ends (now s) (count (now s)) ⌝ }
     ensures { λ r. ⌜ r ≡ neighbourTable (now (s .entry)) ⌝ }
 {
     let n = vertex_count(s);
     let mut t = [[255u8; 8]; 64];
-    let mut v: usize = 0;
-    while v < 64 {
-        let m = marks(s, n, v as u8);
-        let r = row(m, n);
-        t[v] = r;
-        v += 1;
+    let mut j: usize = 0;
+    while j + 1 < n {
+        let a = end_a(s, n, j);
+        let b = end_b(s, n, j);
+        let p = put_in(t[a as usize], b);
+        t[a as usize] = p;
+        let q = put_in(t[b as usize], a);
+        t[b as usize] = q;
+        j += 1;
     }
     t
 }
 
-fn joins_or(a: u8, b: u8, v: u8, w: u8, j: usize, before: usize) -> usize
-    ensures { λ r. ⌜ r ≡ cond (joins a b v w) j before ⌝ }
+// A label, or l where w stands in the place.
+fn label_of(x: u8, w: u8, l: u8, label: u8) -> u8
+    ensures { λ r. ⌜ r ≡ cond (eqb w x) l label ⌝ }
 {
-    if ((a == v) & (b == w)) | ((b == v) & (a == w)) {
-        j
-    } else {
-        before
-    }
+    if w == x { l } else { label }
 }
 
-// The edge between v and w, 0 for none.
-fn edge_between(s: &[u8], n: usize, v: u8, w: u8) -> usize
-    requires { ⌜ Ends (now s) n ⌝ }
-    ensures { λ r. ⌜ (r ≡ edgeBefore (now (s .entry)) n v w (n - 1)) × (r < 64) ⌝ }
+// The labels in a row's places, with l in the place of w.
+fn label_in(labels: [u8; 8], names: [u8; 8], w: u8, l: u8) -> [u8; 8]
+    ensures { λ r. ⌜ r ≡ tab (λ i. cond (eqb w (getD names i 0)) l (getD labels i 0)) 8 ⌝ }
 {
-    let mut e = 0;
-    let mut j = 0;
-    while j + 1 < n {
-        let a = end_a(s, n, j);
-        let b = end_b(s, n, j);
-        e = joins_or(a, b, v, w, j, e);
-        j += 1;
-    }
-    e
-}
-
-// The label of the edge to the neighbour w of v, 255 for a free place.
-fn place_label(s: &[u8], n: usize, v: u8, w: u8) -> u8
-    requires { ⌜ Ends (now s) n ⌝ }
-    requires { ⌜ n ≡ count (now s) ⌝ }
-    ensures { λ r. ⌜ r ≡ labelOfPlace (now (s .entry)) v w ⌝ }
-{
-    if w == model::Limits::NONE {
-        return model::Limits::NONE;
-    }
-    let j = edge_between(s, n, v, w);
-    byte_or_zero(s, 7 + 3 * n + 5 * j)
-}
-
-fn label_row(s: &[u8], n: usize, v: u8, places: [u8; 8]) -> [u8; 8]
-    requires { ⌜ Ends (now s) n ⌝ }
-    requires { ⌜ n ≡ count (now s) ⌝ }
-    ensures { λ r. ⌜ r ≡ tab (λ i. labelOfPlace (now (s .entry)) v (getD places i 0)) 8 ⌝ }
-{
-    let mut r = [255u8; 8];
+    let mut r = [0u8; 8];
     let mut i: usize = 0;
     while i < 8 {
-        let l = place_label(s, n, v, places[i]);
-        r[i] = l;
+        let x = label_of(names[i], w, l, labels[i]);
+        r[i] = x;
         i += 1;
     }
     r
@@ -145,11 +98,16 @@ pub fn edge_label_table(s: &[u8], neighbours: &[[u8; 8]; 64]) -> [[u8; 8]; 64]
 {
     let n = vertex_count(s);
     let mut t = [[255u8; 8]; 64];
-    let mut v: usize = 0;
-    while v < 64 {
-        let r = label_row(s, n, v as u8, neighbours[v]);
-        t[v] = r;
-        v += 1;
+    let mut j: usize = 0;
+    while j + 1 < n {
+        let a = end_a(s, n, j);
+        let b = end_b(s, n, j);
+        let l = edge_label_at(s, n, j);
+        let p = label_in(t[a as usize], neighbours[a as usize], b, l);
+        t[a as usize] = p;
+        let q = label_in(t[b as usize], neighbours[b as usize], a, l);
+        t[b as usize] = q;
+        j += 1;
     }
     t
 }

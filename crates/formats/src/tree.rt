@@ -239,24 +239,28 @@ fn is_acyclic(s: &[u8], n: usize) -> bool
 
 // ---- item 7: at most eight edges at a vertex
 
-fn ends_at(a: u8, b: u8, v: u8) -> usize
-    ensures { λ r. ⌜ r ≡ cond (eqb a v || eqb b v) 1 0 ⌝ }
+// An edge counts once at each of its ends, and once in all where they are the same: 1 for its second end, or 0.
+fn second(a: u8, b: u8) -> u8
+    ensures { λ r. ⌜ r ≡ cond (eqb a b) 0 1 ⌝ }
 {
-    if (a == v) | (b == v) { 1 } else { 0 }
+    if a == b { 0 } else { 1 }
 }
 
-// How many edges end at v.
-fn degree_of(s: &[u8], n: usize, v: u8) -> usize
+// How many edges end at each vertex.
+fn degrees(s: &[u8], n: usize) -> [u8; 64]
     requires { ⌜ Ends (now s) n ⌝ }
-    ensures { λ r. ⌜ r ≡ degree (now (s .entry)) n v (n - 1) ⌝ }
-    ensures { λ r. ⌜ r < 64 ⌝ }
+    ensures { λ r. ⌜ r ≡ tab (λ v. degree (now (s .entry)) n v (n - 1)) 64 ⌝ }
 {
-    let mut d = 0;
-    let mut j = 0;
+    let mut d = [0u8; 64];
+    let mut j: usize = 0;
     while j + 1 < n {
         let a = end_a(s, n, j);
         let b = end_b(s, n, j);
-        d += ends_at(a, b, v);
+        let x = d[a as usize];
+        d[a as usize] = x + 1;
+        let more = second(a, b);
+        let y = d[b as usize];
+        d[b as usize] = y + more;
         j += 1;
     }
     d
@@ -266,11 +270,12 @@ fn are_edges_few(s: &[u8], n: usize) -> bool
     requires { ⌜ Ends (now s) n ⌝ }
     ensures { λ r. ⌜ r ≡ fewEdges (now (s .entry)) n ⌝ }
 {
+    let d = degrees(s, n);
     let mut ok = true;
     let mut v: usize = 0;
     while v < n {
-        let d = degree_of(s, n, v as u8);
-        ok = ok & (d <= (model::Limits::DEGREE as usize));
+        let x = d[v];
+        ok = ok & (x <= model::Limits::DEGREE);
         v += 1;
     }
     ok

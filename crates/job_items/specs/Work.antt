@@ -1,5 +1,5 @@
 -- Item 16 row by row: what the test of the work numbers reads, and that its rows together are the model's. Assumes nothing.
-use mathlib.Core.Path.{_≡_, refl, sym, _∙_}
+use mathlib.Core.Path.{_≡_, refl, sym, ap, _∙_, subst}
 use mathlib.Core.Logic.{⊎-elim}
 use mathlib.Core.Bool.{Bool, true, false, _&&_}
 use mathlib.Core.List.{List}
@@ -22,20 +22,28 @@ use Rattle.model.specs.Pairs.{vertexPair}
 use Rattle.model.specs.Calls.{inputItem}
 use Rattle.model.specs.Jobs.{numberOk, workOk}
 use Rattle.trees.specs.Accepted.{Sound}
-use Rattle.trees.specs.Positions.{position-of}
+use Rattle.trees.specs.Positions.{position-of, offset-all}
 use Rattle.formats.specs.Inputs.{Accepted, input-accepted}
 use Rattle.solver.specs.Plan.{Ready, Lent}
 use Rattle.solver.specs.PlanLaws.{Located, located-is}
 
 -- ---- one number
 
-pub number-none : (w z : ℤ) → isForbidden w ≡ true → numberOk (weighed w) z ≡ isForbidden z
-unfolding numberOk weighed
-number-none w z e = rw e
+-- at an allowed pair
+unfoldable pub inRange : ℤ → Bool
+inRange z = leZ (negℤ (pos weightLimit)) z && leZ z (pos ceiling)
 
-pub number-some : (w z : ℤ) → isForbidden w ≡ false → numberOk (weighed w) z ≡ (leZ (negℤ (pos weightLimit)) z && leZ z (pos ceiling))
-unfolding numberOk weighed
-number-some w z e = rw e
+-- the number in place k of those from `from` on, at a pair of weight w
+unfoldable pub pairTest : List ℤ → ℕ → ℤ → ℕ → Bool
+pairTest work from w k = numberOk (weighed w) (getD work (from + k) (pos 0))
+
+pub pair-none : (work : List ℤ) (from n : ℕ) (w : ℤ) → isForbidden w ≡ true → every (λ k. isForbidden (getD work (from + k) (pos 0))) n ≡ every (pairTest work from w) n
+unfolding pairTest numberOk weighed
+pair-none work from n w e = every-ext (λ k. isForbidden (getD work (from + k) (pos 0))) (pairTest work from w) n (λ k l. rw e)
+
+pub pair-some : (work : List ℤ) (from n : ℕ) (w : ℤ) → isForbidden w ≡ false → every (λ k. inRange (getD work (from + k) (pos 0))) n ≡ every (pairTest work from w) n
+unfolding pairTest numberOk weighed inRange
+pair-some work from n w e = every-ext (λ k. inRange (getD work (from + k) (pos 0))) (pairTest work from w) n (λ k l. rw e)
 
 -- ---- what the test reads
 
@@ -47,25 +55,6 @@ pub record Scanned (table r f : List ℕ) (order starts : List ℕ) : Type 0 whe
 
 pub ready-scanned : {table r f : List ℕ} {numbers : List ℤ} {rnear rlabels fnear flabels : List (List ℕ)} {order place starts : List ℕ} → Ready table r f numbers rnear rlabels fnear flabels order place starts → Scanned table r f order starts
 ready-scanned k = record { passes = k .passes; ordered = k .recorded .ordered; offsets = k .found .offsets }
-
--- the slots of each of m vertices begin after those of the vertex before
-pub record Ascending (starts : List ℕ) (m : ℕ) : Type 0 where
-  pub up : (v : ℕ) → v + 1 < m → getD starts v 0 < getD starts (v + 1) 0
-  pub first : getD starts 0 0 ≡ 0
-
-pub located-first : (starts : List ℕ) (m : ℕ) → Ascending starts m → 1 ≤ m → Located starts m 0 0
-located-first starts m a h = record { low = h; from = λ l. absurd (omega arith); upto = λ l. let u = a .up 0 l in let e = a .first in omega arith }
-
--- the next slot is v's too, or the first of the next vertex
-pub located-stay : (starts : List ℕ) (m k v : ℕ) → Located starts m k v → (v + 1 < m → k + 1 < getD starts (v + 1) 0) → Located starts m (k + 1) v
-located-stay starts m k v l h = record { low = l .low; from = λ z. let a : getD starts v 0 ≤ k = l .from z in omega arith; upto = h }
-
-pub located-next : (starts : List ℕ) (m k v : ℕ) → Ascending starts m → Located starts m k v → v + 1 < m → getD starts (v + 1) 0 ≤ k + 1 → Located starts m (k + 1) (v + 1)
-located-next starts m k v a l h g = record {
-  low = h;
-  from = λ z. g;
-  upto = λ z. let u : k < getD starts (v + 1) 0 = l .upto h in let b : getD starts (v + 1) 0 < getD starts (v + 1 + 1) 0 = a .up (v + 1) z in omega arith;
-}
 
 -- ---- one row
 
@@ -79,19 +68,11 @@ pub record RowAt (table r f starts : List ℕ) (work : List ℤ) (base u m upto 
   pub counted : m ≡ count f
   pub few : m ≤ 64
   pub some : 1 ≤ m
-  pub ascending : Ascending starts m
   pub offsets : (v : ℕ) → v ≤ count f → getD starts v 0 ≡ offset f v
   pub within : upto ≤ 190
+  pub narrow : upto ≤ getD starts m 0
   pub small : base ≤ 64 * 190
   pub lent : base + upto ≤ length work
-
--- the test of slot k from the vertex that the code is at
-pub row-test : {table r f starts : List ℕ} {work : List ℤ} {base u m upto : ℕ} → RowAt table r f starts work base u m upto → (k v : ℕ) (w z : ℤ) (b : Bool) → Located starts m k v → vertexPair table r f u v ≡ weighed w → z ≡ getD work (base + k) (pos 0) → b ≡ numberOk (weighed w) z → b ≡ rowTest table r f work base u k
-unfolding rowTest
-row-test {table} {r} {f} {starts} {work} {base} {u} {m} {upto} R k v w z b l e g h =
-    h ∙ rw (located-is f _ _ (R .accepted .found) starts (R .offsets) m k v (R .counted) l, e, g)
-
--- ---- all rows
 
 and-assoc : (a b c : Bool) → (a && (b && c)) ≡ ((a && b) && c)
 and-assoc true b c = refl
@@ -106,19 +87,47 @@ unfolding every
 every-sum p a zero = let e : a + 0 ≡ a = omega arith in rw e (and-one (every p a))
 every-sum p a (suc b) = let e : a + suc b ≡ suc (a + b) = omega arith in rw (e, every-sum p a b) (sym (and-assoc (every p a) (every (λ k. p (a + k)) b) (p (a + b))))
 
+module _ {table r f starts : List ℕ} {work : List ℤ} {base u m upto : ℕ} (R : RowAt table r f starts work base u m upto) where
+  pub row-none : min (getD starts 0 0) upto ≡ 0
+  unfolding offset
+  row-none = let a = R .offsets 0 (omega arith) in omega arith
+
+  -- the slots of v begin at k, and there are some
+  pub row-vertex : (k v : ℕ) → v ≤ m → k ≡ min (getD starts v 0) upto → k < upto → (v < m) × (getD starts v 0 ≡ k) × (k < getD starts (v + 1) 0)
+  unfolding offset
+  row-vertex k v h e l =
+      let c = R .counted in
+      let n = R .narrow in
+      let low : v < m = ⊎-elim (λ z. z) (λ z. let q : v ≡ m = omega arith in let g : k ≡ min (getD starts m 0) upto = subst (λ x. k ≡ min (getD starts x 0) upto) q e in absurd (omega arith)) (less? v m) in
+      let a = R .offsets v (omega arith) in
+      let b = R .offsets (v + 1) (omega arith) in
+      let d : offset f (v + 1) ≡ offset f v + suc (length (neighbours f v)) = rw (add-one v) in
+      (low, omega arith, omega arith)
+
+  -- the slots of v, as far as they are tested
+  pub row-pair : (k v end : ℕ) (w : ℤ) (ok b : Bool) → v ≤ m → k ≡ min (getD starts v 0) upto → k < upto → end ≡ min (getD starts (v + 1) 0) upto → vertexPair table r f u v ≡ weighed w
+      → ok ≡ every (rowTest table r f work base u) k → b ≡ every (pairTest work (base + k) w) (end - k) → (ok && b) ≡ every (rowTest table r f work base u) end
+  unfolding rowTest pairTest
+  row-pair k v end w ok b h e l ee ew eo eb =
+      let t = row-vertex k v h e l in
+      let lv = t .0 in
+      let at = t .1 in
+      let past = t .2 in
+      let sum : end ≡ k + (end - k) = omega arith in
+      let same : every (pairTest work (base + k) w) (end - k) ≡ every (λ j. rowTest table r f work base u (k + j)) (end - k) = every-ext (pairTest work (base + k) w) (λ j. rowTest table r f work base u (k + j)) (end - k) (λ j lj.
+      let z : Located starts m (k + j) v = record { low = lv; from = λ q. omega arith; upto = λ q. omega arith } in
+      let g : base + k + j ≡ base + (k + j) = omega arith in
+      rw (located-is f _ _ (R .accepted .found) starts (R .offsets) m (k + j) v (R .counted) z, ew, g)) in
+      rw (eo, eb, same) (sym (every-sum (rowTest table r f work base u) k (end - k)) ∙ sym (ap (every (rowTest table r f work base u)) sum))
+
+-- ---- all rows
+
 module _ {table r f order starts : List ℕ} (S : Scanned table r f order starts) where
   pub scanned-accepted : Accepted table r f
   scanned-accepted = input-accepted table r f (S .passes)
 
   pub scanned-sound : Sound f
   scanned-sound = record { K = _; L = _; passed = scanned-accepted .found }
-
-  ascending : Ascending starts (count f)
-  unfolding offset
-  ascending = record {
-    up = λ v l. let a = S .offsets v (omega arith) in let b = S .offsets (v + 1) (omega arith) in let c : offset f (v + 1) ≡ offset f v + suc (length (neighbours f v)) = rw (add-one v) in omega arith;
-    first = S .offsets 0 (omega arith);
-  }
 
   pub subproblems-few : subproblems r f ≤ 12160
   unfolding subproblems width
@@ -156,9 +165,9 @@ module _ {table r f order starts : List ℕ} (S : Scanned table r f order starts
         counted = c;
         few = omega arith;
         some = omega arith;
-        ascending = rw c ascending;
         offsets = S .offsets;
         within = omega arith;
+        narrow = rw c (omega (arith, S .offsets (count f) (omega arith), offset-all f (A .found .ends) (A .found .tree)));
         small = omega arith;
         lent = omega arith;
       }

@@ -1,43 +1,64 @@
-//! Item 16: the work numbers before the position, one turn of a loop for each.
+//! Item 16: the work numbers before the position, row by row, in a row by found vertex.
 use formats::tree::vertex_count;
 use solver::subproblem::pair_weight;
 use solver::subproblem::width_of;
-ghost use Prim.Native.Nat.{_+_, _-_, _≤_, _<_, min};
+ghost use Prim.Native.Nat.{_+_, _≤_, min};
+ghost use lib.ListN.{length, getD};
+ghost use lib.IntN.{pos};
 ghost use mathlib.Core.Path.{_≡_};
 ghost use Rattle.foundations.specs.Lists.{every};
-ghost use Rattle.model.specs.Weights.{weighed};
+ghost use Rattle.model.specs.Weights.{isForbidden};
 ghost use Rattle.model.specs.Order.{subproblems};
-ghost use Rattle.model.specs.Jobs.{numberOk, workOk};
+ghost use Rattle.model.specs.Jobs.{workOk};
 ghost use Rattle.solver.specs.Plan.{Lent};
-ghost use Rattle.solver.specs.PlanLaws.{Located};
-ghost use Rattle.job_items.specs.Work.{Scanned, Ascending, RowAt, rowTest};
+ghost use Rattle.job_items.specs.Work.{Scanned, RowAt, rowTest, pairTest, inRange};
 
-// A work number may stand at a vertex pair of this weight.
-fn number_ok(weight: i32, z: i32) -> bool
-    ensures { λ r. ⌜ r ≡ numberOk (weighed weight) z ⌝ }
+// A work number may stand at an allowed pair.
+fn in_range(z: i32) -> bool
+    ensures { λ r. ⌜ r ≡ inRange z ⌝ }
 {
-    if integers::is_forbidden(weight) {
-        return integers::is_forbidden(z);
-    }
     (-model::Limits::WEIGHT <= z) & (z <= model::Limits::CEILING)
 }
 
-// The found vertex of slot k + 1 from that of slot k: the next one where its slots begin there.
-fn onward(starts: &[usize; 65], m: usize, k: usize, v: u8) -> u8
-    requires { ⌜ (m ≤ 64) × (k < 190) ⌝ }
-    requires { ⌜ Ascending (now starts) m ⌝ }
-    requires { ⌜ Located (now starts) m k v ⌝ }
-    ensures { λ r. ⌜ Located (now (starts .entry)) m (k + 1) r ⌝ }
+// The count work numbers from `from` on may stand at an allowed pair.
+fn all_in_range(work: &[i32], from: usize, count: usize) -> bool
+    requires { ⌜ from + count ≤ length (now work) ⌝ }
+    ensures { λ r. ⌜ r ≡ every (λ k. inRange (getD (now (work .entry)) (from + k) (pos 0))) count ⌝ }
 {
-    let next = v + 1;
-    if m <= (next as usize) {
-        return v;
+    let mut ok = true;
+    let mut k: usize = 0;
+    while k < count {
+        let one = in_range(work[from + k]);
+        ok = ok & one;
+        k += 1;
     }
-    if starts[next as usize] <= k + 1 {
-        next
-    } else {
-        v
+    ok
+}
+
+// They may stand at a forbidden one.
+fn all_forbidden(work: &[i32], from: usize, count: usize) -> bool
+    requires { ⌜ from + count ≤ length (now work) ⌝ }
+    ensures { λ r. ⌜ r ≡ every (λ k. isForbidden (getD (now (work .entry)) (from + k) (pos 0))) count ⌝ }
+{
+    let mut ok = true;
+    let mut k: usize = 0;
+    while k < count {
+        let one = integers::is_forbidden(work[from + k]);
+        ok = ok & one;
+        k += 1;
     }
+    ok
+}
+
+// They may stand at a pair of this weight.
+fn pair_ok(work: &[i32], from: usize, count: usize, weight: i32) -> bool
+    requires { ⌜ from + count ≤ length (now work) ⌝ }
+    ensures { λ r. ⌜ r ≡ every (pairTest (now (work .entry)) from weight) count ⌝ }
+{
+    if integers::is_forbidden(weight) {
+        return all_forbidden(work, from, count);
+    }
+    all_in_range(work, from, count)
 }
 
 fn smaller(a: usize, b: usize) -> usize
@@ -46,7 +67,7 @@ fn smaller(a: usize, b: usize) -> usize
     if a <= b { a } else { b }
 }
 
-// The first `upto` work numbers of recorded vertex u, which begin at `base`, may stand at their pairs.
+// The first `upto` work numbers of recorded vertex u, which begin at `base`, may stand at their pairs, one found vertex after the other.
 fn row_ok(
     table: &[u8],
     recorded: &[u8],
@@ -62,15 +83,15 @@ fn row_ok(
     ensures { λ r. ⌜ r ≡ every (rowTest (now (table .entry)) (now (recorded .entry)) (now (found .entry)) (now (work .entry)) base u) upto ⌝ }
 {
     let mut ok = true;
-    let mut v: u8 = 0;
+    let mut v: usize = 0;
     let mut k: usize = 0;
     while k < upto {
-        let w = pair_weight(table, recorded, found, u, v);
-        let fits = number_ok(w, work[base + k]);
+        let w = pair_weight(table, recorded, found, u, v as u8);
+        let end = smaller(starts[v + 1], upto);
+        let fits = pair_ok(work, base + k, end - k, w);
         ok = ok & fits;
-        let next = onward(starts, m, k, v);
-        v = next;
-        k += 1;
+        v += 1;
+        k = end;
     }
     ok
 }

@@ -1,52 +1,67 @@
--- `records_marked` meets its contract: the test is gathered over the subproblems. Assumes nothing.
-use Prim.Native.Nat.{_≤_, _-_}
-use mathlib.Core.Path.{_≡_, refl}
-use native.Mathlib.Omega.{arith}
+-- `records_marked` gathers the test over the recorded vertices in postorder. Assumes nothing.
 use borrow.Author.Needs.{needs}
+use native.Mathlib.Omega.{arith}
+use mathlib.Core.Path.{_≡_, refl, ap, _∙_}
+use mathlib.Core.Bool.{Bool}
+use mathlib.Core.List.{List}
+use Prim.Native.Nat.{ℕ, _+_, _*_, _-_, _≤_, _<_}
 use Rattle.foundations.specs.Lists.{every, every-step, every-end}
 use Rattle.model.specs.Bytes.{isMark}
 use Rattle.model.specs.Certificate.{recordMark, recordAt}
-use Rattle.records.specs.Places.{ready-inputs}
+use Rattle.model.specs.Order.{offset, width, subproblems}
+use Rattle.model.specs.Tree.{count}
+use Rattle.records.specs.Places.{inputs-recorded, inputs-found, sound-whole}
+use Rattle.check_front.specs.Marks.{vertex-none, vertex-more, row-none, row-more, row-width, choice-inside}
 use Rattle.check_front.proofs.shape.records_marked.Statement.{statement}
 use Rattle.check_front.proofs.shape.records_marked.Tie as tie
 
+-- the test of a subproblem by its number
+abbrev mark : List ℕ → List ℕ → List ℕ → ℕ → Bool
+mark r f z k = isMark z (recordAt r f k) recordMark
+
 abbrev Inv-loop : tie.InvT-loop
-Inv-loop recorded found fnear order starts begins sizes sums z all ok₀ k₀ ok k = (k ≤ all) × (ok ≡ every (λ i. isMark z (recordAt recorded found i) recordMark) k)
+Inv-loop recorded found starts begins sizes sums z n m ok₀ i₀ ok i = (i ≤ n) × (ok ≡ every (mark recorded found z) (i * width found))
 
 abbrev μ-loop : tie.MeasureT-loop
-μ-loop recorded found fnear order starts begins sizes sums z all ok₀ k₀ ok k = all - k
+μ-loop recorded found starts begins sizes sums z n m ok₀ i₀ ok i = n - i
 
-subproblem-count-requires : tie.Need-subproblem-count-requires Inv-loop μ-loop
-subproblem-count-requires c κs = ready-inputs (c .before .before .before .pre .0 .ready)
+vertex-count-requires : tie.Need-vertex-count-requires Inv-loop μ-loop
+vertex-count-requires c κs = sound-whole (inputs-recorded (c .before .before .before .pre .0 .inputs))
+
+vertex-count-requires-2 : tie.Need-vertex-count-requires-2 Inv-loop μ-loop
+vertex-count-requires-2 c κs = sound-whole (inputs-found (c .before .before .before .before .pre .0 .inputs))
 
 loop-holds : tie.Need-loop-holds Inv-loop μ-loop
-unfolding every
-loop-holds c = (omega arith, refl)
+loop-holds c = (omega arith, row-none _ _)
 
-record-marked-requires : tie.Need-record-marked-requires Inv-loop μ-loop
-record-marked-requires c κs =
-    let a = c .before .before in
-    let s = a .before .before .before .before in
-    (s .pre .0, (s .pre .1, rw (← (a .subproblem-count .ensures .0)) (c .loop-test .taken)))
+row-marked-requires : tie.Need-row-marked-requires Inv-loop μ-loop
+row-marked-requires c κs =
+    let w = c .before .before in
+    let p = w .before .before .before .before .before .pre in
+    (p .0, (p .1, (omega (arith, c .loop-test .taken, w .before .vertex-count .ensures), w .vertex-count2 .ensures)))
 
-add-k : tie.Need-add-k Inv-loop μ-loop
-add-k c = let h = c .before .before .before .subproblem-count .ensures .1 in omega arith
+add-i : tie.Need-add-i Inv-loop μ-loop
+add-i c =
+    let w = c .before .before .before in
+    omega (arith, c .before .loop-test .taken, w .before .vertex-count .ensures, inputs-recorded (w .before .before .before .before .before .pre .0 .inputs) .passed .ends .few)
 
 loop-less : tie.Need-loop-less Inv-loop μ-loop
-loop-less c = search needs
+loop-less c = omega (arith, c .before .loop-test .taken)
 
 loop-again : tie.Need-loop-again Inv-loop μ-loop
 loop-again c =
-    let l = c .before .before in
-    let a = l .before .before .before .before .before .args in
-    (omega arith, every-step (λ i. isMark (a .z .now) (recordAt (a .recorded .now) (a .found .now) i) recordMark) (l .loop .k) (l .loop .ok) (c .record-marked .result) (l .loop .inv .1) (c .record-marked .ensures))
+    let t = c .before in
+    let l = t .before in
+    let a = l .before .before .before .before .before .before .args in
+    (omega (arith, t .loop-test .taken), row-more (mark (a .recorded .now) (a .found .now) (a .z .now)) (width (a .found .now)) (l .loop .i) (l .loop .ok) (c .row-marked .result) (l .loop .inv .1) (c .row-marked .ensures))
 
 returns : tie.Need-returns Inv-loop μ-loop
+unfolding subproblems
 returns c =
     let l = c .before in
-    let n = l .before .subproblem-count .ensures .0 in
-    let a = l .before .before .before .before .before .args in
-    every-end (λ i. isMark (a .z .now) (recordAt (a .recorded .now) (a .found .now) i) recordMark) (l .loop .k) _ (l .loop .ok) (l .loop .inv .1) (omega arith)
+    let a = l .before .before .before .before .before .before .args in
+    let e : l .loop .i ≡ count (a .recorded .now) = omega (arith, c .loop-test .left, l .loop .inv .0, l .before .before .vertex-count .ensures) in
+    l .loop .inv .1 ∙ ap (λ (x : ℕ). every (mark (a .recorded .now) (a .found .now) (a .z .now)) (x * width (a .found .now))) e
 
 pub records-marked-spec : {M : Type 1} → statement M
 records-marked-spec =
@@ -54,10 +69,11 @@ records-marked-spec =
     (tie.spec
     Inv-loop
     μ-loop
-    subproblem-count-requires
+    vertex-count-requires
+    vertex-count-requires-2
     loop-holds
-    record-marked-requires
-    add-k
+    row-marked-requires
+    add-i
     loop-less
     loop-again
     returns)

@@ -6,7 +6,7 @@ use borrow.Author.Needs.{needs}
 use lib.ListN.{length}
 use Rattle.model.specs.Certificate.{certificateLength}
 use Rattle.model.specs.Tree.{count}
-use Rattle.records.specs.Places.{Inputs, ready-inputs, ready-offsets, ready-laid, inputs-recorded, inputs-found, sound-whole}
+use Rattle.records.specs.Places.{Inputs, ready-inputs, ready-offsets, ready-standing, inputs-recorded, inputs-found, sound-whole}
 use Rattle.check_front.specs.Steps.{partners-inside, shape-short, shape-whole}
 use Rattle.check_front.proofs.shape.shape_ok.Statement.{statement}
 use Rattle.check_front.proofs.shape.shape_ok.Tie as tie
@@ -86,7 +86,7 @@ records-marked-requires : tie.Need-records-marked-requires
 records-marked-requires c κs =
     let b = c .before .before .before in
     let e = b .before .before .before .before .before .before .before in
-    (ready-laid (start e .pre .0 .ready) (b .row-begins .ensures), long e)
+    (ready-standing (start e .pre .0 .ready) (b .row-begins .ensures), long e)
 
 returns-2 : tie.Need-returns-2
 returns-2 c =

@@ -1,74 +1,125 @@
 -- `edge_label_table` meets its contract. Assumes nothing.
-use mathlib.Core.Path.{_≡_, refl}
-use Prim.Native.Nat.{ℕ, _-_, _≤_}
-use mathlib.Core.List.{List, _++_}
-use lib.ListN.{getD, replicate, drop}
-use Rattle.foundations.specs.Lists.{tab, fill-step, fill-done}
-use Rattle.model.specs.Graph.{eight, labelOfPlace, edgeLabelTable}
-use Rattle.model.specs.Graph.{neighbours as nbs}
-use Rattle.formats.specs.NeighbourSteps.{label-row-of}
+use Prim.Native.Nat.{_-_, _≤_, _<_}
+use mathlib.Core.Path.{_≡_}
+use Rattle.trees.specs.Accepted.{Ends}
+use Rattle.formats.specs.NeighbourSteps.{labelRows, labelSoFar, no-labels, labelled-rows, labels-end}
 use borrow.Author.Needs.{needs}
 use native.Mathlib.Omega.{arith}
 use Rattle.formats.proofs.neighbours.edge_label_table.Statement.{statement}
 use Rattle.formats.proofs.neighbours.edge_label_table.Tie as tie
 
--- the row of labels of v
-abbrev labels : List ℕ → ℕ → List ℕ
-labels s v = tab (λ i. labelOfPlace s v (getD (eight (nbs s v)) i 0)) 8
-
 abbrev Inv-loop : tie.InvT-loop
-Inv-loop s neighbours n t₀ v₀ t v = (v ≤ 64) × (t ≡ tab (labels s) v ++ drop v (replicate 64 (replicate 8 255)))
+Inv-loop s neighbours n t₀ j₀ t j = (j ≤ n - 1) × (t ≡ labelRows neighbours (λ v w. labelSoFar s n v w j))
 
 abbrev μ-loop : tie.MeasureT-loop
-μ-loop s neighbours n t₀ v₀ t v = 64 - v
+μ-loop s neighbours n t₀ j₀ t j = n - j
+
+ends : (c : tie.After-vertex-count Inv-loop μ-loop) → Ends (c .before .before .args .s .now) (c .vertex-count .result)
+ends c = rw (c .vertex-count .ensures) (c .before .before .pre .0)
+
+low-a : (c : tie.After-edge-label-at Inv-loop μ-loop) → c .before .before .end-a .result < 64
+low-a c = let l = c .before .before .before .before in omega (arith, ends (l .before) .low (l .loop .j) (omega arith), ends (l .before) .few, c .before .before .end-a .ensures)
+
+low-b : (c : tie.After-edge-label-at Inv-loop μ-loop) → c .before .end-b .result < 64
+low-b c = let l = c .before .before .before .before in omega (arith, ends (l .before) .low (l .loop .j) (omega arith), ends (l .before) .few, c .before .end-b .ensures)
 
 vertex-count-requires : tie.Need-vertex-count-requires Inv-loop μ-loop
 vertex-count-requires c κs = search needs
 
 loop-holds : tie.Need-loop-holds Inv-loop μ-loop
-unfolding tab
-loop-holds c = (omega arith, refl)
+loop-holds c = (omega arith, no-labels _ _ (c .before .before .args .neighbours .now))
 
-cast-label-row : tie.Need-cast-label-row Inv-loop μ-loop
-cast-label-row c = search needs
+add-loop : tie.Need-add-loop Inv-loop μ-loop
+add-loop c = search needs
 
-mul-label-row : tie.Need-mul-label-row Inv-loop μ-loop
-mul-label-row c = search needs
+end-a-requires : tie.Need-end-a-requires Inv-loop μ-loop
+end-a-requires c κs = (ends (c .before .before), search needs)
 
-element-copy-out-label-row : tie.Need-element-copy-out-label-row Inv-loop μ-loop
-element-copy-out-label-row c = search needs
+end-b-requires : tie.Need-end-b-requires Inv-loop μ-loop
+end-b-requires c κs = (ends (c .before .before .before), search needs)
 
-label-row-requires : tie.Need-label-row-requires Inv-loop μ-loop
-label-row-requires c κs =
-    let k = c .before .before .before .vertex-count in
-    (rw (k .ensures) (c .before .before .before .before .before .pre .0), k .ensures)
+edge-label-at-requires : tie.Need-edge-label-at-requires Inv-loop μ-loop
+edge-label-at-requires c κs = (ends (c .before .before .before .before), search needs)
+
+cast-label-in : tie.Need-cast-label-in Inv-loop μ-loop
+cast-label-in c = search needs
+
+mul-label-in : tie.Need-mul-label-in Inv-loop μ-loop
+mul-label-in c = omega (arith, low-a c)
+
+array-copy-out-label-in : tie.Need-array-copy-out-label-in Inv-loop μ-loop
+array-copy-out-label-in c = omega (arith, low-a c)
+
+cast-label-in-2 : tie.Need-cast-label-in-2 Inv-loop μ-loop
+cast-label-in-2 c = search needs
+
+mul-label-in-2 : tie.Need-mul-label-in-2 Inv-loop μ-loop
+mul-label-in-2 c = omega (arith, low-a (c .before))
+
+element-copy-out-label-in : tie.Need-element-copy-out-label-in Inv-loop μ-loop
+element-copy-out-label-in c = omega (arith, low-a (c .before))
+
+label-in-requires : tie.Need-label-in-requires Inv-loop μ-loop
+label-in-requires c κs = search needs
+
+cast-t : tie.Need-cast-t Inv-loop μ-loop
+cast-t c = search needs
 
 mul-t : tie.Need-mul-t Inv-loop μ-loop
-mul-t c = search needs
+mul-t c = omega (arith, low-a (c .before .before .before))
 
 array-set-from-t : tie.Need-array-set-from-t Inv-loop μ-loop
-array-set-from-t c = search needs
+array-set-from-t c = omega (arith, low-a (c .before .before .before))
 
-add-v : tie.Need-add-v Inv-loop μ-loop
-add-v c = search needs
+cast-label-in-3 : tie.Need-cast-label-in-3 Inv-loop μ-loop
+cast-label-in-3 c = search needs
+
+mul-label-in-3 : tie.Need-mul-label-in-3 Inv-loop μ-loop
+mul-label-in-3 c = omega (arith, low-b (c .before .before .before))
+
+array-copy-out-label-in-2 : tie.Need-array-copy-out-label-in-2 Inv-loop μ-loop
+array-copy-out-label-in-2 c = omega (arith, low-b (c .before .before .before))
+
+cast-label-in-4 : tie.Need-cast-label-in-4 Inv-loop μ-loop
+cast-label-in-4 c = search needs
+
+mul-label-in-4 : tie.Need-mul-label-in-4 Inv-loop μ-loop
+mul-label-in-4 c = omega (arith, low-b (c .before .before .before .before))
+
+element-copy-out-label-in-2 : tie.Need-element-copy-out-label-in-2 Inv-loop μ-loop
+element-copy-out-label-in-2 c = omega (arith, low-b (c .before .before .before .before))
+
+label-in-requires-2 : tie.Need-label-in-requires-2 Inv-loop μ-loop
+label-in-requires-2 c κs = search needs
+
+cast-t-2 : tie.Need-cast-t-2 Inv-loop μ-loop
+cast-t-2 c = search needs
+
+mul-t-2 : tie.Need-mul-t-2 Inv-loop μ-loop
+mul-t-2 c = omega (arith, low-b (c .before .before .before .before .before .before))
+
+array-set-from-t-2 : tie.Need-array-set-from-t-2 Inv-loop μ-loop
+array-set-from-t-2 c = omega (arith, low-b (c .before .before .before .before .before .before))
+
+add-j : tie.Need-add-j Inv-loop μ-loop
+add-j c = search needs
 
 loop-less : tie.Need-loop-less Inv-loop μ-loop
 loop-less c = search needs
 
 loop-again : tie.Need-loop-again Inv-loop μ-loop
 loop-again c =
-    let l = c .before .before .before in
-    let s = l .before .before .before in (
-      omega arith,
-      fill-step (labels (s .args .s .now)) 64 (replicate 8 255) (l .loop .v) (l .loop .t) (c .label-row .result) (omega arith) (l .loop .inv .1)
-          (label-row-of (s .args .s .now) (s .args .neighbours .now) (l .loop .v) (c .label-row .result) (omega arith) (s .pre .1) (c .label-row .ensures)),
-    )
+    let e = c .before .before .before .before .before .before in
+    let l = e .before .before .before .before in
+    let a = l .before .before .before .args in
+    (omega arith, labelled-rows (a .s .now) (l .before .vertex-count .result) (l .loop .j) (e .before .before .end-a .result) (e .before .end-b .result) (e .edge-label-at .result) (a .neighbours .now) (l .loop .t) (c .before .before .before .label-in .result) (c .label-in2 .result) (low-a e) (low-b e) (e .before .before .end-a .ensures) (e .before .end-b .ensures) (e .edge-label-at .ensures) (l .loop .inv .1) (c .before .before .before .label-in .ensures) (c .label-in2 .ensures))
 
 returns : tie.Need-returns Inv-loop μ-loop
-unfolding edgeLabelTable
 returns c =
     let l = c .before in
-    fill-done (labels (l .before .before .before .args .s .now)) 64 (replicate 8 255) (l .loop .v) (l .loop .t) (omega arith) (l .loop .inv .1)
+    let n = l .before .vertex-count in
+    let s = l .before .before .before in
+    labels-end (s .args .s .now) (n .result) (l .loop .j) (s .args .neighbours .now) (l .loop .t) (s .pre .0) (s .pre .1) (n .ensures) (omega (arith, ends (l .before) .some)) (l .loop .inv .1)
 
 pub edge-label-table-spec : {M : Type 1} → statement M
 edge-label-table-spec =
@@ -78,13 +129,31 @@ edge-label-table-spec =
     μ-loop
     vertex-count-requires
     loop-holds
-    cast-label-row
-    mul-label-row
-    element-copy-out-label-row
-    label-row-requires
+    add-loop
+    end-a-requires
+    end-b-requires
+    edge-label-at-requires
+    cast-label-in
+    mul-label-in
+    array-copy-out-label-in
+    cast-label-in-2
+    mul-label-in-2
+    element-copy-out-label-in
+    label-in-requires
+    cast-t
     mul-t
     array-set-from-t
-    add-v
+    cast-label-in-3
+    mul-label-in-3
+    array-copy-out-label-in-2
+    cast-label-in-4
+    mul-label-in-4
+    element-copy-out-label-in-2
+    label-in-requires-2
+    cast-t-2
+    mul-t-2
+    array-set-from-t-2
+    add-j
     loop-less
     loop-again
     returns)

@@ -1,70 +1,108 @@
 -- `neighbour_table` meets its contract. Assumes nothing.
-use mathlib.Core.Path.{_≡_, refl}
-use Prim.Native.Nat.{_-_, _≤_}
-use mathlib.Core.List.{_++_}
-use lib.ListN.{replicate, drop}
-use Rattle.foundations.specs.Lists.{tab, fill-step, fill-done}
-use Rattle.model.specs.Graph.{neighbours, eight, neighbourTable}
-use Rattle.formats.specs.NeighbourSteps.{row-neighbours}
+use Prim.Native.Nat.{_-_, _≤_, _<_}
+use mathlib.Core.Path.{_≡_}
+use Rattle.model.specs.Graph.{joinedBy}
+use Rattle.trees.specs.Accepted.{Ends}
+use Rattle.formats.specs.NeighbourSteps.{rows, no-rows, joined-rows, rows-end}
 use borrow.Author.Needs.{needs}
 use native.Mathlib.Omega.{arith}
 use Rattle.formats.proofs.neighbours.neighbour_table.Statement.{statement}
 use Rattle.formats.proofs.neighbours.neighbour_table.Tie as tie
 
 abbrev Inv-loop : tie.InvT-loop
-Inv-loop s n t₀ v₀ t v = (v ≤ 64) × (t ≡ tab (λ w. eight (neighbours s w)) v ++ drop v (replicate 64 (replicate 8 255)))
+Inv-loop s n t₀ j₀ t j = (j ≤ n - 1) × (t ≡ rows (λ v w. joinedBy s n v w j) n)
 
 abbrev μ-loop : tie.MeasureT-loop
-μ-loop s n t₀ v₀ t v = 64 - v
+μ-loop s n t₀ j₀ t j = n - j
+
+ends : (c : tie.After-vertex-count Inv-loop μ-loop) → Ends (c .before .before .args .s .now) (c .vertex-count .result)
+ends c = rw (c .vertex-count .ensures) (c .before .before .pre)
+
+low-a : (c : tie.After-end-b Inv-loop μ-loop) → c .before .end-a .result < c .before .before .before .before .vertex-count .result
+low-a c = let l = c .before .before .before in omega (arith, ends (l .before) .low (l .loop .j) (omega arith), c .before .end-a .ensures)
+
+low-b : (c : tie.After-end-b Inv-loop μ-loop) → c .end-b .result < c .before .before .before .before .vertex-count .result
+low-b c = let l = c .before .before .before in omega (arith, ends (l .before) .low (l .loop .j) (omega arith), c .end-b .ensures)
+
+few : (c : tie.After-end-b Inv-loop μ-loop) → c .before .before .before .before .vertex-count .result ≤ 64
+few c = ends (c .before .before .before .before) .few
 
 vertex-count-requires : tie.Need-vertex-count-requires Inv-loop μ-loop
 vertex-count-requires c κs = search needs
 
 loop-holds : tie.Need-loop-holds Inv-loop μ-loop
-unfolding tab
-loop-holds c = (omega arith, refl)
+loop-holds c = (omega arith, no-rows _ _)
 
-cast-marks : tie.Need-cast-marks Inv-loop μ-loop
-cast-marks c = search needs
+add-loop : tie.Need-add-loop Inv-loop μ-loop
+add-loop c = search needs
 
-marks-requires : tie.Need-marks-requires Inv-loop μ-loop
-marks-requires c κs =
-    let k = c .before .before .vertex-count in
-    rw (k .ensures) (c .before .before .before .before .pre)
+end-a-requires : tie.Need-end-a-requires Inv-loop μ-loop
+end-a-requires c κs = (ends (c .before .before), search needs)
 
-row-requires : tie.Need-row-requires Inv-loop μ-loop
-row-requires c κs =
-    let k = c .before .before .before .vertex-count in
-    rw (k .ensures) (c .before .before .before .before .before .pre .few)
+end-b-requires : tie.Need-end-b-requires Inv-loop μ-loop
+end-b-requires c κs = (ends (c .before .before .before), search needs)
+
+cast-put-in : tie.Need-cast-put-in Inv-loop μ-loop
+cast-put-in c = search needs
+
+mul-put-in : tie.Need-mul-put-in Inv-loop μ-loop
+mul-put-in c = omega (arith, low-a c, few c)
+
+array-copy-out-put-in : tie.Need-array-copy-out-put-in Inv-loop μ-loop
+array-copy-out-put-in c = omega (arith, low-a c, few c)
+
+put-in-requires : tie.Need-put-in-requires Inv-loop μ-loop
+put-in-requires c κs = search needs
+
+cast-t : tie.Need-cast-t Inv-loop μ-loop
+cast-t c = search needs
 
 mul-t : tie.Need-mul-t Inv-loop μ-loop
-mul-t c = search needs
+mul-t c = omega (arith, low-a (c .before .before), few (c .before .before))
 
 array-set-from-t : tie.Need-array-set-from-t Inv-loop μ-loop
-array-set-from-t c = search needs
+array-set-from-t c = omega (arith, low-a (c .before .before), few (c .before .before))
 
-add-v : tie.Need-add-v Inv-loop μ-loop
-add-v c = search needs
+cast-put-in-2 : tie.Need-cast-put-in-2 Inv-loop μ-loop
+cast-put-in-2 c = search needs
+
+mul-put-in-2 : tie.Need-mul-put-in-2 Inv-loop μ-loop
+mul-put-in-2 c = omega (arith, low-b (c .before .before), few (c .before .before))
+
+array-copy-out-put-in-2 : tie.Need-array-copy-out-put-in-2 Inv-loop μ-loop
+array-copy-out-put-in-2 c = omega (arith, low-b (c .before .before), few (c .before .before))
+
+put-in-requires-2 : tie.Need-put-in-requires-2 Inv-loop μ-loop
+put-in-requires-2 c κs = search needs
+
+cast-t-2 : tie.Need-cast-t-2 Inv-loop μ-loop
+cast-t-2 c = search needs
+
+mul-t-2 : tie.Need-mul-t-2 Inv-loop μ-loop
+mul-t-2 c = omega (arith, low-b (c .before .before .before .before), few (c .before .before .before .before))
+
+array-set-from-t-2 : tie.Need-array-set-from-t-2 Inv-loop μ-loop
+array-set-from-t-2 c = omega (arith, low-b (c .before .before .before .before), few (c .before .before .before .before))
+
+add-j : tie.Need-add-j Inv-loop μ-loop
+add-j c = search needs
 
 loop-less : tie.Need-loop-less Inv-loop μ-loop
 loop-less c = search needs
 
 loop-again : tie.Need-loop-again Inv-loop μ-loop
 loop-again c =
-    let l = c .before .before .before in
-    let k = l .before .vertex-count in
-    let s = l .before .before .before in
-    let few : k .result ≤ 64 = rw (k .ensures) (s .pre .few) in (
-      omega arith,
-      fill-step (λ w. eight (neighbours (s .args .s .now) w)) 64 (replicate 8 255) (l .loop .v) (l .loop .t) (c .row .result) (omega arith) (l .loop .inv .1)
-          (row-neighbours (s .args .s .now) (k .result) (l .loop .v) (c .before .marks .result) (c .row .result) (k .ensures) few (c .before .marks .ensures) (c .row .ensures)),
-    )
+    let b = c .before .before .before .before in
+    let l = b .before .before .before in
+    let n = l .before .vertex-count in
+    (omega arith, joined-rows (l .before .before .before .args .s .now) (n .result) (l .loop .j) (b .before .end-a .result) (b .end-b .result) (l .loop .t) (c .before .before .put-in .result) (c .put-in2 .result) (low-a b) (low-b b) (few b) (b .before .end-a .ensures) (b .end-b .ensures) (l .loop .inv .1) (c .before .before .put-in .ensures) (c .put-in2 .ensures))
 
 returns : tie.Need-returns Inv-loop μ-loop
-unfolding neighbourTable
 returns c =
     let l = c .before in
-    fill-done (λ w. eight (neighbours (l .before .before .before .args .s .now) w)) 64 (replicate 8 255) (l .loop .v) (l .loop .t) (omega arith) (l .loop .inv .1)
+    let n = l .before .vertex-count in
+    let few : n .result ≤ 64 = ends (l .before) .few in
+    rows-end (l .before .before .before .args .s .now) (n .result) (l .loop .j) (l .loop .t) (n .ensures) (omega arith) (l .loop .inv .1)
 
 pub neighbour-table-spec : {M : Type 1} → statement M
 neighbour-table-spec =
@@ -74,12 +112,24 @@ neighbour-table-spec =
     μ-loop
     vertex-count-requires
     loop-holds
-    cast-marks
-    marks-requires
-    row-requires
+    add-loop
+    end-a-requires
+    end-b-requires
+    cast-put-in
+    mul-put-in
+    array-copy-out-put-in
+    put-in-requires
+    cast-t
     mul-t
     array-set-from-t
-    add-v
+    cast-put-in-2
+    mul-put-in-2
+    array-copy-out-put-in-2
+    put-in-requires-2
+    cast-t-2
+    mul-t-2
+    array-set-from-t-2
+    add-j
     loop-less
     loop-again
     returns)

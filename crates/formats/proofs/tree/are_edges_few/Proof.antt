@@ -1,32 +1,30 @@
 -- `are_edges_few` meets its contract. Assumes nothing.
-use Rattle.foundations.specs.Lists.{every, every-step, every-end}
-use Rattle.model.specs.Tree.{degree, fewEdges}
+use mathlib.Core.Path.{_≡_, refl, ap, _∙_}
+use Prim.Native.Nat.{ℕ, _-_, _≤_}
 use lib.Dec.{leb}
-use native.Mathlib.Omega.{arith}
-use mathlib.Core.Path.{_≡_, refl, ap}
-use Prim.Native.Nat.{_-_, _≤_}
+use lib.ListN.{getD}
+use Rattle.foundations.specs.Lists.{every, every-step, every-end, getD-tab}
+use Rattle.model.specs.Tree.{degree, fewEdges}
 use borrow.Author.Needs.{needs}
+use native.Mathlib.Omega.{arith}
 use Rattle.formats.proofs.tree.are_edges_few.Statement.{statement}
 use Rattle.formats.proofs.tree.are_edges_few.Tie as tie
 
 abbrev Inv-loop : tie.InvT-loop
-Inv-loop s n ok₀ v₀ ok v = (v ≤ n) × (ok ≡ every (λ x. leb (degree s n x (n - 1)) 8) v)
+Inv-loop s n d ok₀ v₀ ok v = (v ≤ n) × (ok ≡ every (λ x. leb (degree s n x (n - 1)) 8) v)
 
 abbrev μ-loop : tie.MeasureT-loop
-μ-loop s n ok₀ v₀ ok v = n - v
+μ-loop s n d ok₀ v₀ ok v = n - v
+
+degrees-requires : tie.Need-degrees-requires Inv-loop μ-loop
+degrees-requires c κs = search needs
 
 loop-holds : tie.Need-loop-holds Inv-loop μ-loop
 unfolding every
 loop-holds c = (omega arith, refl)
 
-cast-degree-of : tie.Need-cast-degree-of Inv-loop μ-loop
-cast-degree-of c = search needs
-
-degree-of-requires : tie.Need-degree-of-requires Inv-loop μ-loop
-degree-of-requires c κs = search needs
-
-cast-ok : tie.Need-cast-ok Inv-loop μ-loop
-cast-ok c = search needs
+array-read-x : tie.Need-array-read-x Inv-loop μ-loop
+array-read-x c = search needs
 
 add-v : tie.Need-add-v Inv-loop μ-loop
 add-v c = search needs
@@ -36,16 +34,19 @@ loop-less c = search needs
 
 loop-again : tie.Need-loop-again Inv-loop μ-loop
 loop-again c =
-    let l = c .before .before in
-    let a = l .before .before .args in
-    (omega arith, every-step (λ x. leb (degree (a .s .now) (a .n) x (a .n - 1)) 8) (l .loop .v) (l .loop .ok) (leb (c .degree-of .result) 8) (l .loop .inv .1) (ap (λ d. leb d 8) (c .degree-of .ensures .0)))
+    let l = c .before in
+    let d = l .before .degrees in
+    let s = l .before .before .before in
+    let few = s .pre .few in
+    let p : ℕ → ℕ = λ x. degree (s .args .s .now) (s .args .n) x (s .args .n - 1) in
+    (omega arith, every-step (λ x. leb (p x) 8) (l .loop .v) (l .loop .ok) _ (l .loop .inv .1) (ap (λ x. leb x 8) (ap (λ y. getD y (l .loop .v) 0) (d .ensures) ∙ getD-tab p 64 (l .loop .v) 0 (omega arith))))
 
 returns : tie.Need-returns Inv-loop μ-loop
 unfolding fewEdges
 returns c =
     let l = c .before in
-    let a = l .before .before .args in
-    every-end (λ x. leb (degree (a .s .now) (a .n) x (a .n - 1)) 8) (l .loop .v) (a .n) (l .loop .ok) (l .loop .inv .1) (omega arith)
+    let s = l .before .before .before in
+    every-end (λ x. leb (degree (s .args .s .now) (s .args .n) x (s .args .n - 1)) 8) (l .loop .v) (s .args .n) (l .loop .ok) (l .loop .inv .1) (omega arith)
 
 pub are-edges-few-spec : {M : Type 1} → statement M
 are-edges-few-spec =
@@ -53,10 +54,9 @@ are-edges-few-spec =
     (tie.spec
     Inv-loop
     μ-loop
+    degrees-requires
     loop-holds
-    cast-degree-of
-    degree-of-requires
-    cast-ok
+    array-read-x
     add-v
     loop-less
     loop-again

@@ -1,83 +1,88 @@
--- `row_ok` gathers the test over one row. The invariant: the slots below k are tested, and v is slot k's vertex. Assumes nothing.
-use mathlib.Core.Path.{_≡_, refl}
-use Prim.Native.Nat.{_+_, _-_, _≤_}
-use native.Mathlib.Omega.{arith}
-use lib.IntN.{pos}
+-- `row_ok` gathers the test over one row, by found vertex. The invariant: the slots below k are tested, and k is where those of v begin, or the end. Assumes nothing.
+use mathlib.Core.Path.{_≡_, refl, sym, _∙_}
+use Prim.Native.Nat.{_+_, _-_, _≤_, _<_, min}
 use lib.ListN.{getD}
-use borrow.Author.Needs.{needs}
-use Rattle.foundations.specs.Lists.{every, every-step, every-end}
+use Rattle.foundations.specs.Lists.{every, every-end}
 use Rattle.foundations.specs.Machine.{Same, back}
-use Rattle.model.specs.Jobs.{numberOk}
-use Rattle.model.specs.Weights.{weighed}
-use Rattle.solver.specs.PlanLaws.{Located}
-use Rattle.job_items.specs.Work.{rowTest, row-test, located-first}
+use Rattle.job_items.specs.Work.{rowTest, row-none, row-vertex, row-pair}
+use borrow.Author.Needs.{needs}
+use native.Mathlib.Omega.{arith}
 use Rattle.job_items.proofs.work.row_ok.Statement.{statement}
 use Rattle.job_items.proofs.work.row_ok.Tie as tie
 
 abbrev Inv-loop : tie.InvT-loop
-Inv-loop table recorded found starts work base u m upto ok₀ v₀ k₀ ok v k = (k ≤ upto) × (ok ≡ every (rowTest table recorded found work base u) k) × Located starts m k v
+Inv-loop table recorded found starts work base u m upto ok₀ v₀ k₀ ok v k = (v ≤ m) × (k ≡ min (getD starts v 0) upto) × (ok ≡ every (rowTest table recorded found work base u) k)
 
 abbrev μ-loop : tie.MeasureT-loop
 μ-loop table recorded found starts work base u m upto ok₀ v₀ k₀ ok v k = upto - k
 
+-- in the loop: v is a vertex, its slots begin at k, and there are some
+vertex : (c : tie.In-loop Inv-loop μ-loop) →
+    let l = c .before in
+    let a = l .before .before .before .before .args in
+    (l .loop .v < a .m) × (getD (a .starts .now) (l .loop .v) 0 ≡ l .loop .k) × (l .loop .k < getD (a .starts .now) (l .loop .v + 1) 0)
+vertex c =
+    let l = c .before in
+    row-vertex (l .before .before .before .before .pre) (l .loop .k) (l .loop .v) (l .loop .inv .0) (l .loop .inv .1) (c .loop-test .taken)
+
 loop-holds : tie.Need-loop-holds Inv-loop μ-loop
 unfolding every
-loop-holds c = let R = c .before .before .before .pre in (omega arith, refl, located-first _ _ (R .ascending) (R .some))
+loop-holds c = (omega arith, sym (row-none (c .before .before .before .pre)), refl)
+
+cast-pair-weight : tie.Need-cast-pair-weight Inv-loop μ-loop
+cast-pair-weight c = omega (arith, vertex c .0, c .before .before .before .before .before .pre .few)
 
 pair-weight-requires : tie.Need-pair-weight-requires Inv-loop μ-loop
 pair-weight-requires c κs =
     let R = c .before .before .before .before .before .pre in
-    let l = c .before .loop .inv .2 .low in
     let e = R .counted in
-    (R .accepted, (R .vertex, omega arith))
+    (R .accepted, (R .vertex, omega (arith, vertex c .0)))
 
-add-number-ok : tie.Need-add-number-ok Inv-loop μ-loop
-add-number-ok c = let R = c .before .before .before .before .before .before .pre in omega (arith, R .small, R .within)
+add-smaller : tie.Need-add-smaller Inv-loop μ-loop
+add-smaller c = omega (arith, vertex (c .before) .0, c .before .before .before .before .before .before .pre .few)
 
-mul-number-ok : tie.Need-mul-number-ok Inv-loop μ-loop
-mul-number-ok c = let R = c .before .before .before .before .before .before .pre in omega (arith, R .small, R .within)
+mul-smaller : tie.Need-mul-smaller Inv-loop μ-loop
+mul-smaller c = omega (arith, vertex (c .before) .0, c .before .before .before .before .before .before .pre .few)
 
-shared-slice-copy-out-number-ok : tie.Need-shared-slice-copy-out-number-ok Inv-loop μ-loop
-shared-slice-copy-out-number-ok c = let R = c .before .before .before .before .before .before .pre in omega (arith, R .lent)
+element-copy-out-smaller : tie.Need-element-copy-out-smaller Inv-loop μ-loop
+element-copy-out-smaller c = omega (arith, vertex (c .before) .0, c .before .before .before .before .before .before .pre .few)
 
-number-ok-requires : tie.Need-number-ok-requires Inv-loop μ-loop
-number-ok-requires c κs = search needs
+smaller-requires : tie.Need-smaller-requires Inv-loop μ-loop
+smaller-requires c κs = search needs
 
-onward-requires : tie.Need-onward-requires Inv-loop μ-loop
-onward-requires c κs =
-    let l = c .before .before .before .before in
-    let R = l .before .before .before .before .pre in
-    ((R .few, omega (arith, R .within)), (R .ascending, l .loop .inv .2))
+add-pair-ok : tie.Need-add-pair-ok Inv-loop μ-loop
+add-pair-ok c = let R = c .before .before .before .before .before .before .before .before .pre in omega (arith, R .small, R .within, c .before .before .before .loop-test .taken)
 
-add-k : tie.Need-add-k Inv-loop μ-loop
-add-k c = let R = c .before .before .before .before .before .before .before .before .before .pre in omega (arith, R .within)
+sub-pair-ok : tie.Need-sub-pair-ok Inv-loop μ-loop
+sub-pair-ok c = let t = c .before .before .before in omega (arith, vertex t .2, t .loop-test .taken, c .smaller .ensures)
+
+pair-ok-requires : tie.Need-pair-ok-requires Inv-loop μ-loop
+pair-ok-requires c κs =
+    let t = c .before .before .before in
+    let R = t .before .before .before .before .before .pre in
+    omega (arith, R .lent, vertex t .2, t .loop-test .taken, c .smaller .ensures)
+
+add-v : tie.Need-add-v Inv-loop μ-loop
+add-v c = let t = c .before .before .before .before in omega (arith, vertex t .0, t .before .before .before .before .before .pre .few)
 
 loop-less : tie.Need-loop-less Inv-loop μ-loop
-loop-less c = search needs
+loop-less c = let t = c .before .before .before .before in omega (arith, vertex t .2, t .loop-test .taken, c .before .smaller .ensures)
 
 loop-again : tie.Need-loop-again Inv-loop μ-loop
 loop-again c =
-    let n = c .before in
-    let p = n .before .before in
-    let l = p .before .before in
+    let p = c .before .before .before in
+    let t = p .before in
+    let l = t .before in
     let s = l .before .before .before .before in
-    let a = s .args in
-    let k = l .loop .k in
     let w = p .pair-weight .result in
-    let z = getD (a .work .now) (a .base + k) (pos 0) in
     let d : Same w = back {z = w} (p .pair-weight .ok) in
-    let q : Same z = back {z = z} (n .before .number-ok-arg .given) in
-    let e : n .number-ok .result ≡ numberOk (weighed w) z = rw (d, q) at (n .number-ok .ensures) in (
-      omega arith,
-      every-step (rowTest (a .table .now) (a .recorded .now) (a .found .now) (a .work .now) (a .base) (a .u)) k (l .loop .ok) (n .number-ok .result) (l .loop .inv .1) (row-test (s .pre) k (l .loop .v) w z (n .number-ok .result) (l .loop .inv .2) (p .pair-weight .ensures .is) refl e),
-      c .onward .ensures,
-    )
+    (omega (arith, vertex t .0), c .before .smaller .ensures, row-pair (s .pre) (l .loop .k) (l .loop .v) (c .before .smaller .result) w (l .loop .ok) (c .pair-ok .result) (l .loop .inv .0) (l .loop .inv .1) (t .loop-test .taken) (c .before .smaller .ensures) (p .pair-weight .ensures .is) (l .loop .inv .2) (rw d at (c .pair-ok .ensures)))
 
 returns : tie.Need-returns Inv-loop μ-loop
 returns c =
     let l = c .before in
     let a = l .before .before .before .before .args in
-    every-end (rowTest (a .table .now) (a .recorded .now) (a .found .now) (a .work .now) (a .base) (a .u)) (l .loop .k) (a .upto) (l .loop .ok) (l .loop .inv .1) (omega arith)
+    every-end (rowTest (a .table .now) (a .recorded .now) (a .found .now) (a .work .now) (a .base) (a .u)) (l .loop .k) (a .upto) (l .loop .ok) (l .loop .inv .2) (omega (arith, l .loop .inv .1))
 
 pub row-ok-spec : {M : Type 1} → statement M
 row-ok-spec =
@@ -86,13 +91,16 @@ row-ok-spec =
     Inv-loop
     μ-loop
     loop-holds
+    cast-pair-weight
     pair-weight-requires
-    add-number-ok
-    mul-number-ok
-    shared-slice-copy-out-number-ok
-    number-ok-requires
-    onward-requires
-    add-k
+    add-smaller
+    mul-smaller
+    element-copy-out-smaller
+    smaller-requires
+    add-pair-ok
+    sub-pair-ok
+    pair-ok-requires
+    add-v
     loop-less
     loop-again
     returns)

@@ -1,0 +1,60 @@
+-- `put_in` meets its contract. Assumes nothing.
+use Prim.Native.Nat.{_-_, _≤_}
+use Rattle.formats.specs.Insertion.{putIn, Putting, putting-none, putting-more, putting-all}
+use borrow.Author.Needs.{needs}
+use native.Mathlib.Omega.{arith}
+use Rattle.formats.proofs.neighbours.put_in.Statement.{statement}
+use Rattle.formats.proofs.neighbours.put_in.Tie as tie
+
+abbrev Inv-loop : tie.InvT-loop
+Inv-loop w r₀ c₀ i₀ r c i = (i ≤ 8) × Putting i c r (putIn w r₀)
+
+abbrev μ-loop : tie.MeasureT-loop
+μ-loop w r₀ c₀ i₀ r c i = 8 - i
+
+loop-holds : tie.Need-loop-holds Inv-loop μ-loop
+loop-holds c = (omega arith, putting-none _ _ (search needs))
+
+array-read-x : tie.Need-array-read-x Inv-loop μ-loop
+array-read-x c = search needs
+
+stays-requires : tie.Need-stays-requires Inv-loop μ-loop
+stays-requires c κs = search needs
+
+carry-requires : tie.Need-carry-requires Inv-loop μ-loop
+carry-requires c κs = search needs
+
+array-write-r : tie.Need-array-write-r Inv-loop μ-loop
+array-write-r c = search needs
+
+add-i : tie.Need-add-i Inv-loop μ-loop
+add-i c = search needs
+
+loop-less : tie.Need-loop-less Inv-loop μ-loop
+loop-less c = search needs
+
+loop-again : tie.Need-loop-again Inv-loop μ-loop
+loop-again c =
+    let l = c .before .before .before in
+    (omega arith, putting-more (l .loop .i) (l .loop .c) (c .before .stays .result) (c .carry .result) (l .loop .r) _ (omega arith) (c .before .stays .ensures) (c .carry .ensures) (l .loop .inv .1))
+
+returns : tie.Need-returns Inv-loop μ-loop
+returns c =
+    let l = c .before in
+    putting-all (l .loop .i) (l .loop .c) (l .loop .r) _ (omega arith) (l .loop .inv .1)
+
+pub put-in-spec : {M : Type 1} → statement M
+put-in-spec =
+    tie.close
+    (tie.spec
+    Inv-loop
+    μ-loop
+    loop-holds
+    array-read-x
+    stays-requires
+    carry-requires
+    array-write-r
+    add-i
+    loop-less
+    loop-again
+    returns)

@@ -1,0 +1,15 @@
+-- `second` meets its contract. Assumes nothing.
+use borrow.Author.Tests.{eq-eqb, ne-eqb}
+use borrow.Author.Needs.{needs}
+use native.Mathlib.Omega.{arith}
+use Rattle.formats.proofs.tree.second.Statement.{statement}
+use Rattle.formats.proofs.tree.second.Tie as tie
+
+returns : tie.Need-returns
+returns c = rw (eq-eqb _ _ (c .if1 .taken))
+
+returns-2 : tie.Need-returns-2
+returns-2 c = rw (ne-eqb _ _ (c .if1 .left))
+
+pub second-spec : {M : Type 1} → statement M
+second-spec = tie.close (tie.spec returns returns-2)
