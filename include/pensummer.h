@@ -2,12 +2,12 @@
  * optimality. Link with libexports.a (`rt staticlib exports`).
  *
  * Every buffer is a pointer and a count of elements. No pointer is null, not even for a count of 0, and each is aligned for its type; the same holds for
- * a job's record. What a call writes overlaps nothing else that it is lent; what it only reads may be the same twice. `table`, `recorded` and `found` are
+ * a job's record. All of it is initialised, and no one else writes to it during a call. What a call writes overlaps nothing else that it is lent; what it only reads may be the same twice. `table`, `recorded` and `found` are
  * bytes in the formats of paper 01: a weight table, the tree recorded at commissioning (n vertices) and the one found (m vertices). No function asks
  * anything of their content, keeps a pointer, allocates, or reads or writes past an end.
  *
  * A refusal number is 0 where the call was carried out, else the number of the first item of paper 01, "Why a call is turned down", that applies among
- * those that the call tests, in its order. A call that is turned down changes nothing that it was lent.
+ * those that the call tests, in its order. A call that is refused changes nothing that it was lent.
  *
  * Work numbers, and the mapping or certificate that a call writes, may have more room than needed: what lies behind is left as it was. A table, a tree, and
  * a certificate that is checked are refused if their count is not exactly their length: to check what was written, pass the length that was given back.
@@ -34,25 +34,25 @@ extern "C" {
 /* The partner of a vertex without one. */
 #define PENSUMMER_NONE 255
 
-/* refusal: as above; weight: the mapping's, 0 where the call was turned down. */
+/* refusal: as above; weight: the mapping's, 0 where the call was refused. */
 struct pensummer_match_result {
     uint32_t refusal;
     int32_t weight;
 };
 
-/* A job's state. It belongs to the caller, who lends it to each call. Any bytes may stand in it: 0 in `idle` says that a job is running, any other
+/* A job's state. It belongs to the caller, who lends it to each call. Any bytes may stand in it: 0 in `idle` says that a job was started, any other
  * number that none is. */
 struct pensummer_job {
     uint32_t idle, n, m, position, total;
 };
 
-/* count: the subproblems that this call solved, 0 where it was turned down. */
+/* count: the subproblems that this call solved, 0 where it was refused. */
 struct pensummer_advance_result {
     uint32_t refusal;
     uint32_t count;
 };
 
-/* length: the certificate's, in bytes, 0 where the call was turned down. */
+/* length: the certificate's, in bytes, 0 where the call was refused. */
 struct pensummer_write_result {
     uint32_t refusal;
     uint32_t length;
@@ -73,14 +73,15 @@ uint32_t pensummer_start(struct pensummer_job *job, const uint8_t *table, size_t
                          const uint8_t *found, size_t found_len, const int32_t *work, size_t work_len);
 
 /* Solves the smaller of `budget` and what is left. Tests 1 to 16. Fills exactly that many work numbers, from the position on, each with its subproblem's
- * value by the numbers before it, as they were lent, and at most 127,000,000; adds the count to the position and to the total, which stops at
+ * value by the numbers before it, as lent or as this call has filled them, and at most 127,000,000; adds the count to the position and to the total, which stops at
  * 4,294,967,295. */
 struct pensummer_advance_result pensummer_advance(struct pensummer_job *job, const uint8_t *table, size_t table_len,
                                                   const uint8_t *recorded, size_t recorded_len, const uint8_t *found, size_t found_len,
                                                   uint32_t budget, int32_t *work, size_t work_len);
 
 /* Reads the mapping of a job whose subproblems are all solved. Tests 1 to 18. Leaves a mapping in the first n bytes of `mapping`, and gives its exact
- * weight; over memory that nothing but the job's own calls has changed since the start, it is a heaviest one. Changes no record. */
+ * weight; over memory that nothing but the job's own calls has changed since the start, it is a heaviest one. That memory is the table, the two trees,
+ * the record and the first n(3m - 2) work numbers: what lies behind them may be another in each call, and of another length. Changes no record. */
 struct pensummer_match_result pensummer_finish(const struct pensummer_job *job, const uint8_t *table, size_t table_len,
                                                const uint8_t *recorded, size_t recorded_len, const uint8_t *found, size_t found_len,
                                                const int32_t *work, size_t work_len, uint8_t *mapping, size_t mapping_len);

@@ -332,7 +332,7 @@ fn owner(m: &[u8; 8], k: usize, c: usize) -> usize
 }
 
 // The gains of column c set to 0.
-fn clear(g: &mut [u64; 64], k: usize, c: usize)
+pub fn clear(g: &mut [u64; 64], k: usize, c: usize)
     requires { ⌜ (length (now g) ≡ 64) × (k ≤ 8) × (c < 8) ⌝ }
     ensures { λ _. ⌜ (length (now (g .exit)) ≡ 64) × (Cleared k c (cell (now (g .entry))) (cell (now (g .exit)))) ⌝ }
 {

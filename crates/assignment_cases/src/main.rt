@@ -7,7 +7,6 @@ use assignment::GAIN_LIMIT;
 use libc::STDOUT_FILENO;
 use std::num::wrapping_add_u64;
 ghost use Prim.Native.Nat.{ℕ, _+_, _*_, _<_, _≤_};
-ghost use mathlib.Core.Path.{_≡_};
 ghost use Rattle.assignment.specs.Matching.{at, cell, gainLimit};
 ghost use Rattle.assignment.specs.State.{Sized, Answer};
 ghost use Rattle.assignment_cases.specs.Small.{Small};

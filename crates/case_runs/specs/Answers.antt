@@ -7,12 +7,14 @@ use lib.ListN.{length}
 use lib.IntN.{ℤ}
 use Rattle.model.specs.declared.MatchAnswer.{MatchAnswer}
 use Rattle.model.specs.declared.MatchAnswer.the-variants.{Found, Refused}
-use Rattle.model.specs.Calls.{inputItem, matchItem}
+use Rattle.model.specs.Calls.{matchItem}
+use Rattle.model.specs.Jobs.{startItem}
 use Rattle.model.specs.Match.{MatchCall}
 use Rattle.model.specs.Order.{subproblems}
 use Rattle.model.specs.Tree.{count}
-use Rattle.one_call.specs.Items.{match-input, match-none}
-use Rattle.cases.specs.Expected.{Expected, weighs, refused, checked, Row, plant, Holds, Weighs}
+use Rattle.job_items.specs.Items.{start-input, start-none}
+use Rattle.one_call.specs.Items.{match-start, match-none}
+use Rattle.cases.specs.Expected.{Expected, weighs, refused, checked, Row, plant, Holds}
 
 -- the weight, or the item's number; a certificate is not the match's matter
 abbrev pub Answers : Expected → MatchAnswer → Type 0
@@ -28,8 +30,9 @@ Answered (plant k table r f e) =
 
 pub row-answered : (row : Row) → Holds row → Answered row
 row-answered (plant k table r f (weighs w p)) h = λ work mapping work′ mapping′ a enough room call.
-    call .matched (match-none table r f work mapping (h .passes) enough room) .given ∙ ap Found (h .answers)
+    call .matched (match-none table r f work mapping (start-none table r f work (h .passes) enough) room) .given ∙ ap Found (h .answers)
 row-answered (plant k table r f (refused i)) h = λ work mapping work′ mapping′ a enough room call n.
-    let e : matchItem table r f work mapping ≡ i = match-input table r f work mapping (λ z. n (sym h ∙ z)) ∙ h in
+    let s : startItem table r f work ≡ i = start-input table r f work (λ z. n (sym h ∙ z)) ∙ h in
+    let e : matchItem table r f work mapping ≡ i = match-start table r f work mapping (λ z. n (sym s ∙ z)) ∙ s in
     call .refused (λ z. n (sym e ∙ z)) .given ∙ ap Refused e
 row-answered (plant k table r f (checked z i)) h = λ work mapping work′ mapping′ a enough room call. tt

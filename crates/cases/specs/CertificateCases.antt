@@ -21,7 +21,7 @@ use Rattle.model.specs.Table.{vertexWeight, edgeWeight, tableSized, tableMarked
 use Rattle.model.specs.Tree.{sized, marked, labelsKnown, endsLow, closes, acyclic, degree, fewEdges}
 use Rattle.model.specs.Values.{greatest, largest}
 use Rattle.model.specs.Weights.{isForbidden, inRange, weightOk, weighed}
-use Rattle.cases.specs.Expected.{Expected, checked, Row, plant, Holds, All, end, _then_}
+use Rattle.cases.specs.Expected.{checked, Row, plant, All, end, _then_}
 use Rattle.cases.specs.Plants.{wordBytes, weights, tableOf, rows, vertexBytes, edge, edgesOf, treeOf, star, table8}
 
 -- each record by its value and its duals

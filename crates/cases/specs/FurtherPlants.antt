@@ -21,7 +21,7 @@ use Rattle.model.specs.Table.{vertexWeight, edgeWeight, tableSized, tableMarked
 use Rattle.model.specs.Tree.{sized, marked, labelsKnown, endsLow, closes, acyclic, degree, fewEdges}
 use Rattle.model.specs.Values.{greatest, best, valueFrom, valueTo, value, largest, answer}
 use Rattle.model.specs.Weights.{isForbidden, inRange, weightOk, weighed}
-use Rattle.cases.specs.Expected.{Expected, weighs, Row, plant, Holds, All, end, _then_, by-test}
+use Rattle.cases.specs.Expected.{weighs, Row, plant, All, end, _then_, by-test}
 use Rattle.cases.specs.Plants.{wordBytes, weights, rows, tableOf, vertexBytes, edge, edgesOf, treeOf, path, tableP, table7}
 
 -- pair (0,0) 5, others forbidden; edge weight -1

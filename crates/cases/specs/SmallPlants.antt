@@ -20,7 +20,7 @@ use Rattle.model.specs.Table.{vertexWeight, edgeWeight, tableSized, tableMarked
 use Rattle.model.specs.Tree.{sized, marked, labelsKnown, endsLow, closes, acyclic, degree, fewEdges}
 use Rattle.model.specs.Values.{greatest, best, valueFrom, valueTo, value, largest, answer}
 use Rattle.model.specs.Weights.{isForbidden, inRange, weightOk, weighed}
-use Rattle.cases.specs.Expected.{Expected, weighs, refused, checked, Row, plant, Holds, All, end, _then_, by-test}
+use Rattle.cases.specs.Expected.{weighs, refused, checked, Row, plant, All, end, _then_, by-test}
 use Rattle.cases.specs.Plants.{wordBytes, weights, rows, tableOf, vertexBytes, edge, edgesOf, treeOf, path, star, three, tableP, table7, table8, certificate1}
 
 -- case, table, recorded, found, and what is expected

@@ -15,6 +15,7 @@ use Rattle.foundations.specs.Members.{getD-mem, del-out, length-del, mem-occ, p
 use Rattle.model.specs.Calls.{inputItem}
 use Rattle.model.specs.Certificate.{squares, certificateLength, others, recordLength, recordAt}
 use Rattle.model.specs.Graph.{joined, neighbours}
+use Rattle.model.specs.Limits.{vertexLimit, degreeLimit, widthLimit, squareLimit, certificateLimit}
 use Rattle.model.specs.Order.{parent, depth, children, postorder, position, choices, width, subproblems, offset, slot, index, uAt, vAt, sAt}
 use Rattle.model.specs.Tree.{count}
 use Rattle.trees.specs.Neighbours.{once-neighbours, few-neighbours}
@@ -45,8 +46,8 @@ total (suc n) w q g = omega (arith, total n w q g)
 
 module _ (s : List ℕ) (t : IsTree s) where
   -- the children of all vertices in postorder: each vertex but the root is one child
-  kids-sum : sum (count s) (λ i. length (children s (getD (postorder s) i 0))) ≡ count s - 1
-  kids-sum =
+  children-sum : sum (count s) (λ i. length (children s (getD (postorder s) i 0))) ≡ count s - 1
+  children-sum =
       let n = count s in
       sum-ext n (λ i. length (children s (getD (postorder s) i 0))) (λ i. cnt (child (parent s) (getD (postorder s) i 0)) n) counted
       ∙ cnt-swap n n (λ i w. child (parent s) (getD (postorder s) i 0) w)
@@ -140,7 +141,7 @@ module _ (r f : List ℕ) (tr : IsTree r) (tf : IsTree f) where
       (sum-rows (count r) (width f) (recordLength r f)
       ∙ sum-ext (count r) (λ i. sum (width f) (λ j. recordLength r f (i * width f + j))) (λ i. width f * (6 + 4 * length (children r (getD (postorder r) i 0))) + 4 * squares f (count f)) whole
       ∙ total (count r) (width f) (squares f (count f)) (λ i. length (children r (getD (postorder r) i 0)))
-      ∙ ap (λ (x : ℕ). 6 * (count r * width f) + 4 * (x * width f) + 4 * (count r * squares f (count f))) (kids-sum r tr))
+      ∙ ap (λ (x : ℕ). 6 * (count r * width f) + 4 * (x * width f) + 4 * (count r * squares f (count f))) (children-sum r tr))
       ∙ omega arith
     where
       whole : (i : ℕ) → i < count r → sum (width f) (λ j. recordLength r f (i * width f + j)) ≡ width f * (6 + 4 * length (children r (getD (postorder r) i 0))) + 4 * squares f (count f)
@@ -179,7 +180,7 @@ record Spread (d : ℕ) : Type 0 where
   pub least : d * d + 17 ≤ 9 * suc d
   pub between : (d ≡ 1) ⊎ ((d ≡ 8) ⊎ (d * d + 23 ≤ 9 * suc d))
 
-spread : (d : ℕ) → 1 ≤ d → d ≤ 8 → Spread d
+spread : (d : ℕ) → 1 ≤ d → d ≤ degreeLimit → Spread d
 spread d one few = record {
   least = let e : (d - 1) * ((d - 1) + (8 - d)) ≡ (d - 1) * 7 = ap (λ (x : ℕ). (d - 1) * x) (omega arith) in shift (d - 1) (8 - d) d (omega arith) e;
   between = ⊎-elim inl (λ n. inr (⊎-elim inl (λ k. inr (let e : (d - 2) * ((d - 2) + (7 - d)) ≡ (d - 2) * 5 = ap (λ (x : ℕ). (d - 2) * x) (omega arith) in shift2 (d - 2) (7 - d) d (omega arith) e)) (same? d 8))) (same? d 1);
@@ -203,17 +204,17 @@ so-far-step v o q d p (even t e h) = let l = p .least in ⊎-elim
     (p .between)
 so-far-step v o q d p (short h) = let l = p .least in short (omega arith)
 
-alone : (f : List ℕ) → offset f 1 ≡ 1 → squares f 1 ≤ 616
+alone : (f : List ℕ) → offset f 1 ≡ 1 → squares f 1 ≤ squareLimit
 unfolding offset squares
 alone f h = let d : length (neighbours f 0) ≡ 0 = omega arith in rw d (omega arith)
 
-module _ (f : List ℕ) (t : IsTree f) (few : (v : ℕ) → v < count f → length (neighbours f v) ≤ 8) where
+module _ (f : List ℕ) (t : IsTree f) (few : (v : ℕ) → v < count f → length (neighbours f v) ≤ degreeLimit) where
   so-far : 2 ≤ count f → (v : ℕ) → v ≤ count f → SoFar v (offset f v) (squares f v)
   unfolding offset squares
   so-far two zero h = even 0 (omega arith) (omega arith)
   so-far two (suc v) h = so-far-step v (offset f v) (squares f v) (length (neighbours f v)) (spread (length (neighbours f v)) (some-neighbour f t two v (omega arith)) (few v (omega arith))) (so-far two v (omega arith))
 
-  pub squares-most : squares f (count f) ≤ 616
+  pub squares-most : squares f (count f) ≤ squareLimit
   squares-most = pick (less? 1 (count f))
     where
       w : offset f (count f) ≡ 3 * count f - 2
@@ -222,27 +223,31 @@ module _ (f : List ℕ) (t : IsTree f) (few : (v : ℕ) → v < count f → leng
       one : 1 ≤ count f
       one = t .ends .some
 
-      most : count f ≤ 64
+      most : count f ≤ vertexLimit
       most = t .ends .few
 
-      last : SoFar (count f) (offset f (count f)) (squares f (count f)) → squares f (count f) ≤ 616
+      last : SoFar (count f) (offset f (count f)) (squares f (count f)) → squares f (count f) ≤ squareLimit
       last (even k e h) = omega (arith, w, one, most)
       last (short h) = omega (arith, w, one, most)
 
-      pick : (1 < count f) ⊎ (count f ≤ 1) → squares f (count f) ≤ 616
+      pick : (1 < count f) ⊎ (count f ≤ 1) → squares f (count f) ≤ squareLimit
       pick (inl two) = last (so-far two (count f) (omega arith))
       pick (inr h) = let e : count f ≡ 1 = omega (arith, one) in rw e (alone f (rw e at w))
 
-pub length-most : (table r f : List ℕ) → inputItem table r f ≡ 0 → certificateLength r f ≤ 278736
+pub length-most : (table r f : List ℕ) → inputItem table r f ≡ 0 → certificateLength r f ≤ certificateLimit
 unfolding certificateLength subproblems width
 length-most table r f e =
     let A = input-accepted table r f e in
-    let nr : count r ≤ 64 = recorded-tree A .ends .few in
-    let nf : count f ≤ 64 = found-tree A .ends .few in
+    let nr : count r ≤ vertexLimit = recorded-tree A .ends .few in
+    let nf : count f ≤ vertexLimit = found-tree A .ends .few in
     let q = squares-most f (found-tree A) (λ v l. few-neighbours f _ _ (A .found) v l) in
-    let one-less : count r - 1 ≤ 63 = omega arith in
-    let wide : 3 * count f - 2 ≤ 190 = omega arith in
-    let a : count r * (3 * count f - 2) ≤ 64 * 190 = mul-le-mul nr wide in
-    let b : (count r - 1) * (3 * count f - 2) ≤ 63 * 190 = mul-le-mul one-less wide in
-    let c : count r * squares f (count f) ≤ 64 * 616 = mul-le-mul nr q in
+    let one-less : count r - 1 ≤ vertexLimit - 1 = omega arith in
+    let wide : 3 * count f - 2 ≤ widthLimit = omega arith in
+    let a : count r * (3 * count f - 2) ≤ vertexLimit * widthLimit = mul-le-mul nr wide in
+    let b : (count r - 1) * (3 * count f - 2) ≤ (vertexLimit - 1) * widthLimit = mul-le-mul one-less wide in
+    let c : count r * squares f (count f) ≤ vertexLimit * squareLimit = mul-le-mul nr q in
     omega arith
+
+-- the paper's number
+most-is : certificateLimit ≡ 278736
+most-is = refl

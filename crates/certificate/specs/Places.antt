@@ -12,6 +12,7 @@ use Rattle.foundations.specs.Members.{getD-mem, del-out, length-del}
 use Rattle.model.specs.Calls.{inputItem}
 use Rattle.model.specs.Certificate.{squares, certificateLength, others, recordLength, recordAt}
 use Rattle.model.specs.Graph.{neighbours}
+use Rattle.model.specs.Limits.{squareLimit, certificateLimit}
 use Rattle.model.specs.Order.{children, postorder, choices, width, subproblems, offset}
 use Rattle.model.specs.Tree.{count}
 use Rattle.trees.specs.Accepted.{Passed}
@@ -95,7 +96,7 @@ unfolding squares
 squares-up f v zero h = let e : v ≡ 0 = omega arith in rw e (omega arith)
 squares-up f v (suc n) h = ⊎-elim (λ e. rw e (omega arith)) (λ q. let p = squares-up f v n (omega arith) in omega arith) (same? v (suc n))
 
-pub squares-few : (f : List ℕ) (K L : ℕ) → Passed f K L → (v : ℕ) → v ≤ count f → squares f v ≤ 616
+pub squares-few : (f : List ℕ) (K L : ℕ) → Passed f K L → (v : ℕ) → v ≤ count f → squares f v ≤ squareLimit
 squares-few f K L p v h =
     let a = squares-up f v (count f) h in
     let b = squares-most f (record { ends = p .ends; loopless = p .tree }) (λ v l. few-neighbours f K L p v l) in
@@ -116,7 +117,7 @@ module _ (table r f : List ℕ) (e : inputItem table r f ≡ 0) where
   rows-end = length-closed table r f e
 
   -- a record begins within the length, with its mark and value
-  pub record-begins : (k : ℕ) → k < subproblems r f → recordAt r f k + 6 ≤ 278736
+  pub record-begins : (k : ℕ) → k < subproblems r f → recordAt r f k + 6 ≤ certificateLimit
   unfolding recordLength
   record-begins k l = let a = record-inside table r f e k l in let b = length-most table r f e in omega arith
 
@@ -133,7 +134,7 @@ module _ (table r f : List ℕ) (e : inputItem table r f ≡ 0) where
       next : (i w : ℕ) → (i + 1) * w ≡ i * w + w
       next i w = omega arith
 
-  pub row-begins : (i : ℕ) → i ≤ count r → recordAt r f (i * width f) ≤ 278736
+  pub row-begins : (i : ℕ) → i ≤ count r → recordAt r f (i * width f) ≤ certificateLimit
   row-begins i l = ⊎-elim
       (λ q. let a = rows-end in let b = length-most table r f e in rw q (omega arith))
       (λ q. let A = input-accepted table r f e in

@@ -5,7 +5,7 @@ use mathlib.Core.Bool.{Bool, true, false, not, cond, _&&_}
 use mathlib.Core.List.{List, _++_}
 use Prim.Native.Nat.{ℕ, _+_, _*_, _≤_, _<_}
 use native.Mathlib.Omega.{arith}
-use lib.ListN.{length, getD, set, take, drop, replicate, length-append, length-drop, length-replicate}
+use lib.ListN.{length, set, take, drop, replicate, length-append, length-drop, length-replicate}
 use lib.Dec.{eqb}
 use lib.IntN.{ℤ}
 use lib.Seq.{take-append-le, take-all}
@@ -17,53 +17,22 @@ use Rattle.foundations.specs.Tests.{same-test, cond-no, cond-yes, and-split}
 use Rattle.foundations.specs.Lists.{every, tab, length-tab, fill-step}
 use Rattle.model.specs.Bytes.{byteAt, isMark, int32At}
 use Rattle.model.specs.Tree.{count}
-use Rattle.model.specs.Graph.{neighbourTable, edgeLabelTable}
-use Rattle.model.specs.Order.{position, subproblems}
+use Rattle.model.specs.Graph.{neighbours}
+use Rattle.model.specs.Limits.{noVertex, vertexLimit}
+use Rattle.model.specs.Order.{offset, width, subproblems}
 use Rattle.model.specs.Calls.{inputItem}
 use Rattle.model.specs.Mapping.{weight, mappingOk}
-use Rattle.model.specs.Certificate.{headMark, partnerMark, recordMark, certificateLength, recordLength, recordAt, weightIn, mappingIn, eqZ, shapeOk}
+use Rattle.model.specs.Certificate.{headMark, partnerMark, recordMark, certificateLength, recordAt, weightIn, mappingIn, eqZ, shapeOk}
 use Rattle.certificate.specs.Items.{check-input, check-20, check-21, check-22}
 use Rattle.certificate.specs.Rules.{eqZ-says, eqZ-same}
-use Rattle.solver.specs.Plan.{EdgeWeights, Ready}
-use Rattle.records.specs.Places.{Inputs, record-in}
+use Rattle.records.specs.Places.{Inputs, number-at}
 use Rattle.check_front.specs.Front.{FrontChecked}
-
--- ---- what the steps take of what a call has read
-
--- the test of the shape: all but the weights
-pub record ForShape (r f : List ℕ) (rnear rlabels fnear : List (List ℕ)) (order place starts : List ℕ) : Type 0 where
-  pub table : List ℕ
-  pub numbers : List ℤ
-  pub flabels : List (List ℕ)
-  pub ready : Ready table r f numbers rnear rlabels fnear flabels order place starts
-
--- the test of the mapping and its weight
-pub record ForMapping (table r f : List ℕ) (numbers : List ℤ) (rnear rlabels fnear flabels : List (List ℕ)) (place : List ℕ) : Type 0 where
-  pub passes : inputItem table r f ≡ 0
-  pub weights : EdgeWeights table numbers
-  pub recorded : (rnear ≡ neighbourTable r) × (rlabels ≡ edgeLabelTable r)
-  pub found : (fnear ≡ neighbourTable f) × (flabels ≡ edgeLabelTable f)
-  pub placed : (u : ℕ) → u < count r → getD place u 0 ≡ position r u
-
-module _ {table r f : List ℕ} {numbers : List ℤ} {rnear rlabels fnear flabels : List (List ℕ)} {order place starts : List ℕ} (N : Ready table r f numbers rnear rlabels fnear flabels order place starts) where
-  pub for-shape : ForShape r f rnear rlabels fnear order place starts
-  for-shape = record { table = table; numbers = numbers; flabels = flabels; ready = N }
-
-  pub for-mapping : ForMapping table r f numbers rnear rlabels fnear flabels place
-  for-mapping = record {
-    passes = N .passes;
-    weights = N .weights;
-    recorded = (N .recorded .neighbours, N .recorded .edges);
-    found = (N .found .neighbours, N .found .edges);
-    placed = N .recorded .placed;
-  }
 
 -- ---- the shape
 
 -- each record's mark lies inside a certificate of the right length
-pub mark-inside : (r f z : List ℕ) (k : ℕ) → Inputs r f → length z ≡ certificateLength r f → k < subproblems r f → recordAt r f k + 1 < length z
-unfolding recordLength
-mark-inside r f z k I e l = let h = record-in I k l in omega arith
+pub mark-inside : {r f : List ℕ} {plan : List (List ℕ)} → Inputs r f plan → (z : List ℕ) (i v q here : ℕ) → length z ≡ certificateLength r f → i < count r → v < count f → q ≤ length (neighbours f v) → here ≡ recordAt r f (i * width f + (offset f v + q)) → here + 1 < length z
+mark-inside I z i v q here e li lv lq h = let b = number-at (I .ready) i v q li lv lq .inside in omega arith
 
 pub shape-short : (r f z : List ℕ) → length z ≢ certificateLength r f → false ≡ shapeOk r f z
 unfolding shapeOk
@@ -89,30 +58,30 @@ shape-whole r f z at n m head partners records a en em el h p q =
 
 -- the partner bytes of n records from `at` on stand in the first n places
 pub record PartnersAt (z : List ℕ) (at n : ℕ) (p : List ℕ) : Type 0 where
-  pub long : length p ≡ 64
+  pub long : length p ≡ vertexLimit
   pub front : take n p ≡ tab (λ u. byteAt z (at + 2 + 3 * u)) n
 
 -- the array after u of them
 pub record PartnersTo (z : List ℕ) (at u : ℕ) (p : List ℕ) : Type 0 where
-  pub is : p ≡ tab (λ u. byteAt z (at + 2 + 3 * u)) u ++ drop u (replicate 64 255)
+  pub is : p ≡ tab (λ u. byteAt z (at + 2 + 3 * u)) u ++ drop u (replicate vertexLimit noVertex)
 
-pub partners-none : (z : List ℕ) (at : ℕ) → PartnersTo z at 0 (replicate 64 255)
+pub partners-none : (z : List ℕ) (at : ℕ) → PartnersTo z at 0 (replicate vertexLimit noVertex)
 unfolding tab
 partners-none z at = record { is = refl }
 
-pub partners-more : (z : List ℕ) (at u : ℕ) (p : List ℕ) → u < 64 → PartnersTo z at u p → PartnersTo z at (u + 1) (set p u (byteAt z (at + 2 + 3 * u)))
-partners-more z at u p l h = record { is = fill-step (λ u. byteAt z (at + 2 + 3 * u)) 64 255 u p _ l (h .is) refl }
+pub partners-more : (z : List ℕ) (at u : ℕ) (p : List ℕ) → u < vertexLimit → PartnersTo z at u p → PartnersTo z at (u + 1) (set p u (byteAt z (at + 2 + 3 * u)))
+partners-more z at u p l h = record { is = fill-step (λ u. byteAt z (at + 2 + 3 * u)) vertexLimit noVertex u p _ l (h .is) refl }
 
-pub partners-long : {z : List ℕ} {at u : ℕ} {p : List ℕ} → u ≤ 64 → PartnersTo z at u p → length p ≡ 64
+pub partners-long : {z : List ℕ} {at u : ℕ} {p : List ℕ} → u ≤ vertexLimit → PartnersTo z at u p → length p ≡ vertexLimit
 partners-long {z} {at} {u} {p} l h =
-    ap length (h .is) ∙ rw (length-append, length-tab, length-drop, length-replicate {A = ℕ} 64 255) (omega arith)
+    ap length (h .is) ∙ rw (length-append, length-tab, length-drop, length-replicate {A = ℕ} vertexLimit noVertex) (omega arith)
 
-pub partners-end : (z : List ℕ) (at u n : ℕ) (p : List ℕ) → n ≤ 64 → u ≡ n → PartnersTo z at u p → PartnersAt z at n p
+pub partners-end : (z : List ℕ) (at u n : ℕ) (p : List ℕ) → n ≤ vertexLimit → u ≡ n → PartnersTo z at u p → PartnersAt z at n p
 partners-end z at u n p l e h =
     let g : ℕ → ℕ = λ u. byteAt z (at + 2 + 3 * u) in
     record {
       long = partners-long (omega arith) h;
-      front = ap (take n) (h .is) ∙ rw e (take-append-le n (tab g n) (drop n (replicate 64 255)) (rw length-tab (omega arith)) ∙ take-all n (tab g n) (rw length-tab (omega arith)));
+      front = ap (take n) (h .is) ∙ rw e (take-append-le n (tab g n) (drop n (replicate vertexLimit noVertex)) (rw length-tab (omega arith)) ∙ take-all n (tab g n) (rw length-tab (omega arith)));
     }
 
 -- ---- two numbers
@@ -136,7 +105,7 @@ partners-inside r f z e = omega arith
 
 -- they are its mapping
 pub record PartnersOf (r z p : List ℕ) : Type 0 where
-  pub long : length p ≡ 64
+  pub long : length p ≡ vertexLimit
   pub front : take (count r) p ≡ mappingIn r z
 
 pub partners-of : (r z p : List ℕ) (at n : ℕ) → at ≡ 0 → n ≡ count r → PartnersAt z (at + 8) n p → PartnersOf r z p

@@ -1,21 +1,23 @@
 //! Items 21 and 22: the certificate's mapping and its weight.
 use formats::tree::vertex_count;
 use integers::int32_at;
-use mapping_test::mapping_ok;
-use readout::weigh::weigh;
+use mappings::mapping_ok;
+use mappings::weigh::weigh;
 ghost use Prim.Native.Nat.{_+_, _*_, _≤_};
 ghost use mathlib.Core.Path.{_≡_};
 ghost use lib.ListN.{length};
 ghost use Rattle.model.specs.Certificate.{eqZ, certificateLength};
-ghost use Rattle.check_front.specs.Steps.{PartnersAt, ForMapping, mappingItem};
+ghost use Rattle.model.specs.Limits.{vertexLimit};
+ghost use Rattle.plan.specs.Plan.{Ready};
+ghost use Rattle.check_front.specs.Steps.{PartnersAt, mappingItem};
 
 // The partner bytes of the n records from `at` on, in the first n places.
 fn partners(z: &[u8], at: usize, n: usize) -> [u8; 64]
-    requires { ⌜ n ≤ 64 ⌝ }
+    requires { ⌜ n ≤ vertexLimit ⌝ }
     requires { ⌜ at + 3 * n ≤ length (now z) ⌝ }
     ensures { λ r. ⌜ PartnersAt (now (z .entry)) at n r ⌝ }
 {
-    let mut p = [255u8; 64];
+    let mut p = [model::Limits::NONE; 64];
     let mut u: usize = 0;
     while u < n {
         p[u] = z[at + 2 + 3 * u];
@@ -36,37 +38,22 @@ pub fn mapping_item(
     table: &[u8],
     recorded: &[u8],
     found: &[u8],
-    weights: &[i32; 64],
-    rnear: &[[u8; 8]; 64],
-    rlabels: &[[u8; 8]; 64],
-    fnear: &[[u8; 8]; 64],
-    flabels: &[[u8; 8]; 64],
-    place: &[u8; 64],
+    plan: &[[u8; 8]; 512],
     z: &[u8],
     at: usize,
 ) -> u32
-    requires { ⌜ ForMapping (now table) (now recorded) (now found) (now weights) (now rnear) (now rlabels) (now fnear) (now flabels) (now place) ⌝ }
+    requires { ⌜ Ready (now table) (now recorded) (now found) (now plan) ⌝ }
     requires { ⌜ length (now z) ≡ certificateLength (now recorded) (now found) ⌝ }
     requires { ⌜ at ≡ 0 ⌝ }
     ensures { λ r. ⌜ r ≡ mappingItem (now (table .entry)) (now (recorded .entry)) (now (found .entry)) (now (z .entry)) ⌝ }
 {
     let n = vertex_count(recorded);
     let p = partners(z, at + 8, n);
-    let ok = mapping_ok(
-        table,
-        recorded,
-        found,
-        rnear,
-        rlabels,
-        fnear,
-        flabels,
-        place,
-        &p,
-    );
+    let ok = mapping_ok(table, recorded, found, plan, &p);
     if !ok {
         return 21;
     }
-    let w = weigh(table, recorded, found, weights, fnear, flabels, &p);
+    let w = weigh(table, recorded, found, plan, &p);
     let v = int32_at(z, at + 4);
     if !same(v, w) {
         return 22;

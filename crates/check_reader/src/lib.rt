@@ -51,7 +51,8 @@ pub fn records<'t, 'r, 'f, 'a>(
     )
 }
 
-// Checks a certificate: 0 for accepted, else the number of the item that turned it down.
+// Entry point.
+// Checks a certificate: 0 for accepted, else the number of the item that refused it.
 #[no_mangle]
 pub extern "C" fn check_certificate(
     table: &[u8],

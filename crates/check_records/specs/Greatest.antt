@@ -1,111 +1,135 @@
--- The largest recorded value with s = v: the search over a certificate's values is that over work numbers. Assumes nothing.
+-- The greater of 0 and the largest recorded value with s = v, vertex by vertex, is the model's. Assumes nothing.
 use mathlib.Core.Path.{_≡_, refl, sym, ap, _∙_}
-use mathlib.Core.Logic.{⊎-elim, inl, inr}
-use mathlib.Core.List.{List}
-use Prim.Native.Nat.{ℕ, _+_, _*_, _≤_, _<_, max}
+use mathlib.Core.Bool.{Bool, true, false, cond}
+use mathlib.Core.List.{List, [], _∷_, _++_}
+use Prim.Native.Nat.{ℕ, zero, suc, _+_, _*_, _≤_, _<_, max}
 use native.Mathlib.Omega.{arith}
-use lib.ListN.{getD}
-use lib.IntN.{ℤ, pos}
-use mathlib.Core.Bool.{true}
-use Rattle.foundations.specs.Int.{up}
-use Rattle.foundations.specs.Members.{mem-here, mem-below}
-use Rattle.foundations.specs.Tests.{less?}
+use native.Mathlib.Numerals.{add-one}
+use lib.IntN.{ℤ, pos, negsuc}
+use lib.Signed.{leZ}
+use borrow.Author.Tests.{eq-eqb}
+use Rattle.foundations.specs.Int.{up, ints, canon}
+use Rattle.foundations.specs.Lists.{below}
+use Rattle.foundations.specs.Members.{place}
 use Rattle.model.specs.Certificate.{valueIn, valueOf}
-use Rattle.model.specs.Graph.{neighbours}
 use Rattle.model.specs.Mapping.{num}
-use Rattle.model.specs.Order.{position, width, index, subproblems}
+use Rattle.model.specs.Order.{position, width, offset, slot, index}
 use Rattle.model.specs.Tree.{count}
-use Rattle.model.specs.Values.{vertices, largest}
-use Rattle.trees.specs.Accepted.{Sound}
-use Rattle.trees.specs.Positions.{index-low, position-low}
-use Rattle.subtrees.specs.Matching.{greatest-ext}
-use Rattle.one_call.specs.Top.{TopOf, Raised, top-none, top-more, top-row, top-end, top-largest, index-own}
-use Rattle.records.specs.Places.{Standing, inputs-recorded, inputs-found}
-use Rattle.check_records.specs.Gains.{Sits, valuesIn, values-at, values-recalled}
+use Rattle.model.specs.Values.{greatest, vertices, largest}
+use Rattle.model.specs.Weights.{Weight, none, some, weighed, maxW, isForbidden}
+use Rattle.trees.specs.Positions.{position-low}
+use Rattle.plan.specs.Plan.{placeIn, offsetIn}
+use Rattle.plan.specs.Pairs.{upW}
+use Rattle.records.specs.Places.{Laid, inputs-recorded}
+use Rattle.check_records.specs.Gains.{Sits}
 
--- each recorded vertex's place in the postorder
-pub record Places (r place : List ℕ) : Type 0 where
-  pub get : (u : ℕ) → u < count r → getD place u 0 ≡ position r u
+-- ---- the greatest of F 0, F 1, .. below n, and 0
 
--- w is the greater of 0 and the values of the vertices before u, and of u with the vertices before v
-pub record Greatest (r f z : List ℕ) (i j w : ℕ) : Type 0 where
-  pub u : ℕ
-  pub v : ℕ
-  pub top : TopOf r f (valuesIn r f z) i j w u v
+unfoldable pub most : (ℕ → ℕ) → ℕ → ℕ
+most F zero = 0
+most F (suc n) = max (most F n) (F n)
 
--- one row of values
-pub record RowTop (r f starts place : List ℕ) (u m : ℕ) : Type 0 where
-  pub vertex : u < count r
-  pub small : u < 64
-  pub counted : m ≡ count f
-  pub few : m ≤ 64
-  pub row : getD place u 0 ≡ position r u
-  pub row-small : getD place u 0 < 64
+pub most-none : (F : ℕ → ℕ) → 0 ≡ most F 0
+unfolding most
+most-none F = refl
 
-module _ (r f z : List ℕ) where
-  pub greatest-none : Greatest r f z 0 0 0
-  greatest-none = record { u = 0; v = 0; top = top-none r f (valuesIn r f z) }
+pub most-more : (F : ℕ → ℕ) (n w x y : ℕ) → w ≡ most F n → x ≡ F n → y ≡ max w x → y ≡ most F (n + 1)
+unfolding most
+most-more F n w x y a b c = c ∙ rw (add-one n, a, b)
 
-  pub greatest-end : (i k w : ℕ) → Greatest r f z i 0 w → i ≡ k → Greatest r f z k 0 w
-  greatest-end i k w G e = record { u = G .u; v = G .v; top = top-end r f (valuesIn r f z) i k w (G .u) (G .v) (G .top) e }
+most-ext : (F G : ℕ → ℕ) (n : ℕ) → ((k : ℕ) → F k ≡ G k) → most F n ≡ most G n
+unfolding most
+most-ext F G zero h = refl
+most-ext F G (suc n) h = rw (most-ext F G n h, h n)
 
-  pub greatest-row : (i j w : ℕ) → Greatest r f z i j w → j ≡ count f → Greatest r f z (i + 1) 0 w
-  greatest-row i j w G e = record { u = G .u; v = G .v; top = top-row r f (valuesIn r f z) i j w (G .u) (G .v) (G .top) e }
+-- of u's values
+unfoldable pub ownMost : List ℕ → List ℕ → List ℕ → ℕ → ℕ
+ownMost r f z u = most (λ v. upW (valueOf r f z u v v)) (count f)
 
-module _ {r f starts begins sizes sums : List ℕ} (S : Standing r f starts begins sizes sums) where
-  r-sound : Sound r
-  r-sound = inputs-recorded (S .inputs)
+-- ---- weights as numbers, 0 for a negative or forbidden one
 
-  f-sound : Sound f
-  f-sound = inputs-found (S .inputs)
+pub up-weighed : (y : ℤ) → up y ≡ upW (weighed y)
+unfolding weighed isForbidden upW
+up-weighed (pos n) = refl
+up-weighed (negsuc n) = go (isForbidden (negsuc n))
+  where
+    go : (b : Bool) → up (negsuc n) ≡ upW (cond b none (some (negsuc n)))
+    go true = refl
+    go false = refl
 
-  pub own-low : (u v : ℕ) → u < count r → v < count f → index r f u v v < subproblems r f
-  own-low u v lu lv = index-low r f (r-sound .passed .ends) (r-sound .passed .tree) (f-sound .passed .ends) (f-sound .passed .tree) u v v lu lv (mem-here v (neighbours f v))
+up-max : (x y : Weight) → upW (maxW x y) ≡ max (upW x) (upW y)
+unfolding upW
+up-max none y = omega arith
+up-max (some a) none = omega arith
+up-max (some a) (some b) = go (leZ a b) refl
+  where
+    go : (t : Bool) → leZ a b ≡ t → upW (cond t (some b) (some a)) ≡ max (up a) (up b)
+    go true e = let h : up a ≤ up b = omega (ints, canon a, canon b) in omega arith
+    go false e = let h : up b ≤ up a = omega (ints, canon a, canon b) in omega arith
 
-  pub row-top : {place : List ℕ} → Places r place → (u m : ℕ) → u < count r → m ≡ count f → RowTop r f starts place u m
-  row-top P u m lu e =
-      let a : count r ≤ 64 = r-sound .passed .ends .few in
-      let b : count f ≤ 64 = f-sound .passed .ends .few in
-      let p = position-low r (r-sound .passed .ends) (r-sound .passed .tree) u lu in
-      let q = P .get u lu in
-      record { vertex = lu; small = omega arith; counted = e; few = omega arith; row = q; row-small = omega arith }
+greatest-two : (l m : List ℕ) (F : ℕ → Weight) (d : Weight) → greatest (l ++ m) F d ≡ greatest l F (greatest m F d)
+unfolding greatest
+greatest-two [] m F d = refl
+greatest-two (x ∷ l) m F d = rw (greatest-two l m F d)
 
-  -- where the value of (u, v, v) stands
-  pub own-sits : {place : List ℕ} {u m : ℕ} → RowTop r f starts place u m → (v : ℕ) → v < m → Sits r f (getD place u 0) v (getD starts v 0)
-  own-sits {place} {u} {m} R v h =
-      let e = R .counted in
-      let o = S .offsets .get v (omega arith) in
-      let p = position-low r (r-sound .passed .ends) (r-sound .passed .tree) u (R .vertex) in
-      let q = R .row in
-      record { row-low = omega arith; x-low = omega arith; from = omega arith; upto = omega arith }
+up-greatest : (n : ℕ) (F : ℕ → Weight) (d : Weight) → upW (greatest (below (λ v. true) n) F d) ≡ max (most (λ v. upW (F v)) n) (upW d)
+unfolding below greatest most
+up-greatest zero F d = omega arith
+up-greatest (suc n) F d =
+    let a = up-greatest n F (maxW (F n) d) in
+    let b = up-max (F n) d in
+    ap upW (greatest-two (below (λ v. true) n) (n ∷ []) F d) ∙ a ∙ rw b (omega arith)
 
-  own-number : {place : List ℕ} {u m : ℕ} → RowTop r f starts place u m → (v : ℕ) → v < m → getD place u 0 * width f + getD starts v 0 ≡ index r f u v v
-  own-number {place} {u} {m} R v h =
-      let e = R .counted in
-      rw (R .row, S .offsets .get v (omega arith)) (sym (index-own r f u v))
+-- with 0 among them, the greatest is a number that is not negative
+greatest-natural : (l : List ℕ) (F : ℕ → Weight) → (n : ℕ) × (greatest l F (some (pos 0)) ≡ some (pos n))
+unfolding greatest
+greatest-natural [] F = (0, refl)
+greatest-natural (x ∷ l) F = let g = greatest-natural l F in rw (g .1) (go (F x) (g .0))
+  where
+    go : (a : Weight) (n : ℕ) → (m : ℕ) × (maxW a (some (pos n)) ≡ some (pos m))
+    go none n = (n, refl)
+    go (some y) n = pick (leZ y (pos n)) refl
+      where
+        pick : (t : Bool) → leZ y (pos n) ≡ t → (m : ℕ) × (cond t (some (pos n)) (some y) ≡ some (pos m))
+        pick true h = (n, refl)
+        pick false h = (up y, ap some (let e : y ≡ pos (up y) = omega (ints, canon y) in e))
 
-  -- one value more
-  pub greatest-more : (z : List ℕ) {place : List ℕ} {u m : ℕ} → RowTop r f starts place u m → (v w x w′ : ℕ) (y : ℤ) → v < m → Greatest r f z u v w → y ≡ valueIn r f z (getD place u 0 * width f + getD starts v 0) → x ≡ up y → x < 2147483648 → w′ ≡ max w x → Greatest r f z u (v + 1) w′
-  greatest-more z {place} {u} {m} R v w x w′ y h G ey ex small e = ⊎-elim
-      (λ l. record { u = u; v = v; top = more u v (record { old = omega arith; new = omega arith; one = inr (l, (let k : w′ ≡ x = omega arith in k), refl, refl) }) })
-      (λ l. record { u = G .u; v = G .v; top = more (G .u) (G .v) (record { old = omega arith; new = omega arith; one = inl ((let k : w′ ≡ w = omega arith in k), refl, refl) }) })
-      (less? w x)
-    where
-      vl : v < count f
-      vl = let e = R .counted in omega arith
+greatest-num : (l : List ℕ) (F : ℕ → Weight) → num (greatest l F (some (pos 0))) ≡ pos (upW (greatest l F (some (pos 0))))
+unfolding num upW
+greatest-num l F = rw (greatest-natural l F .1)
 
-      value : x ≡ up (getD (valuesIn r f z) (index r f u v v) (pos 0))
-      value = ex ∙ ap (λ (t : ℤ). up t) (ey ∙ ap (valueIn r f z) (own-number R v h) ∙ sym (values-at r f z (index r f u v v) (own-low u v (R .vertex) vl)))
+-- of all it is the model's
+pub most-largest : (r f z : List ℕ) (w : ℕ) → w ≡ most (ownMost r f z) (count r) → largest r f (valueOf r f z) ≡ pos w
+unfolding largest ownMost
+most-largest r f z w e =
+    let R = vertices r in
+    let F : ℕ → Weight = λ u. greatest (vertices f) (λ v. valueOf r f z u v v) none in
+    greatest-num R F ∙ ap pos (up-greatest (count r) F (some (pos 0)) ∙ zero-up ∙ most-ext (λ u. upW (F u)) (ownMost r f z) (count r) (λ u. up-greatest (count f) (λ v. valueOf r f z u v v) none ∙ zero-row u) ∙ sym e)
+  where
+    zero-row : (u : ℕ) → max (most (λ v. upW (valueOf r f z u v v)) (count f)) (upW none) ≡ most (λ v. upW (valueOf r f z u v v)) (count f)
+    zero-row u = unfold upW in omega arith
 
-      more : (u′ v′ : ℕ) → Raised w (G .u) (G .v) x u v w′ u′ v′ → TopOf r f (valuesIn r f z) u (v + 1) w′ u′ v′
-      more u′ v′ c = top-more r f (valuesIn r f z) u v w (G .u) (G .v) x w′ u′ v′ (G .top) (R .vertex) vl value small c
+    zero-up : max (most (λ u. upW (greatest (vertices f) (λ v. valueOf r f z u v v) none)) (count r)) (upW (some (pos 0))) ≡ most (λ u. upW (greatest (vertices f) (λ v. valueOf r f z u v v) none)) (count r)
+    zero-up = unfold upW in omega arith
 
-  -- of all it is the model's
-  pub greatest-all : (z : List ℕ) (w : ℕ) → Greatest r f z (count r) 0 w → (largest r f (valueOf r f z) ≡ pos w) × (w < 2147483648)
-  unfolding largest
-  greatest-all z w G = (
-    ap num (greatest-ext (vertices r) _ _ _ _
-        (λ u tu. greatest-ext (vertices f) _ _ _ _ (λ v tv. sym (values-recalled r f z u v v (own-low u v (mem-below (λ y. true) (count r) u tu .0) (mem-below (λ y. true) (count f) v tv .0)))) refl) refl)
-        ∙ top-largest r f (valuesIn r f z) (count r) w (G .u) (G .v) (G .top) refl,
-    G .top .fits,
-  )
+-- ---- where the values stand
+
+-- the number of (u, v, v)
+index-own : (r f : List ℕ) (u v : ℕ) → index r f u v v ≡ position r u * width f + offset f v
+unfolding index slot place
+index-own r f u v = rw (eq-eqb v v refl) (omega arith)
+
+module _ {r f : List ℕ} {plan places : List (List ℕ)} (L : Laid r f plan places) where
+  pub place-low : (u : ℕ) → u < count r → placeIn plan u < count r
+  place-low u l = rw (L .inputs .ready .planned .recorded u l .place) (position-low r (inputs-recorded (L .inputs) .passed .ends) (inputs-recorded (L .inputs) .passed .tree) u l)
+
+  pub own-sits : (v b : ℕ) → v < count f → b ≡ offsetIn plan v → Sits f v b
+  own-sits v b l e =
+      let o : offsetIn plan v ≡ offset f v = L .inputs .ready .planned .found v l .begins in
+      record { low = l; from = omega arith; upto = omega arith }
+
+  pub own-value : (z : List ℕ) (u v row b x : ℕ) (y : ℤ) → u < count r → v < count f → row ≡ placeIn plan u → b ≡ offsetIn plan v → y ≡ valueIn r f z (row * width f + b) → x ≡ up y → x ≡ upW (valueOf r f z u v v)
+  unfolding valueOf
+  own-value z u v row b x y lu lv er eb ey ex =
+      let n : row * width f + b ≡ index r f u v v = rw (er, eb, L .inputs .ready .planned .recorded u lu .place, L .inputs .ready .planned .found v lv .begins) (sym (index-own r f u v)) in
+      ex ∙ up-weighed y ∙ ap (λ (t : ℤ). upW (weighed t)) (ey ∙ ap (valueIn r f z) n)

@@ -16,20 +16,19 @@ use Rattle.model.specs.Order.{subproblems}
 use Rattle.model.specs.Values.{largest}
 use Rattle.certificate.specs.Items.{check-23, check-24, check-none}
 use Rattle.check_front.specs.Front.{FrontPassed}
-use Rattle.check_records.specs.Gains.{Sized}
 
 unfoldable pub recordsItem : List ℕ → List ℕ → List ℕ → List ℕ → ℕ
 recordsItem table r f z = cond (every (subproblemOk table r f z) (subproblems r f)) (cond (eqZ (weightIn z) (largest r f (valueOf r f z))) 0 24) 23
 
 -- the length is right
-pub front-sized : {table r f z : List ℕ} {next : ℕ} → FrontPassed table r f z next → Sized r f z
+pub front-long : {table r f z : List ℕ} {next : ℕ} → FrontPassed table r f z next → length z ≡ certificateLength r f
 unfolding shapeOk
-front-sized {table} {r} {f} {z} p = record { long = eqb-true (length z) (certificateLength r f) (and-split (eqb (length z) (certificateLength r f)) _ (p .shaped) .0) }
+front-long {table} {r} {f} {z} p = eqb-true (length z) (certificateLength r f) (and-split (eqb (length z) (certificateLength r f)) _ (p .shaped) .0)
 
 -- so the head is there
-pub sized-head : {r f z : List ℕ} → Sized r f z → 4 + 4 ≤ length z
+pub long-head : (r f z : List ℕ) → length z ≡ certificateLength r f → 4 + 4 ≤ length z
 unfolding certificateLength
-sized-head S = omega (arith, S .long)
+long-head r f z e = omega arith
 
 -- a natural number as a sum
 pub zero-sum : (x y : ℤ) (w : ℕ) → y ≡ pos w → eqZ x (pos 0 +ℤ pos w) ≡ eqZ x y

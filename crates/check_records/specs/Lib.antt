@@ -4,6 +4,5 @@ pub mod Cover
 pub mod Rules
 pub mod Gains
 pub mod Records
-pub mod PairRecords
 pub mod Greatest
 pub mod Items

@@ -1,32 +1,22 @@
 //! The rules of one record over what was read for it: of a forbidden pair, and of any other, where each branch's gain is covered by its two duals.
-use crate::numbers::all_nought;
+use crate::numbers::all_zero;
 use crate::numbers::is_sum;
 use crate::numbers::none_negative;
 use crate::numbers::numbers_in;
+use crate::numbers::total_of;
 use integers::int32_at;
+use records::column;
 ghost use Prim.Native.Nat.{_<_};
 ghost use mathlib.Core.Path.{_≡_};
 ghost use lib.ListN.{length};
 ghost use Rattle.foundations.specs.Lists.{every};
-ghost use Rattle.check_records.specs.Cover.{columnIn, isCovered, rowCovered, RowCover, AllCover, Standing, noughtIn, dualsIn};
-
-// The column of the j-th neighbour other than s, where s is the q-th choice.
-fn column(q: usize, j: usize) -> usize
-    requires { ⌜ j < 8 ⌝ }
-    ensures { λ r. ⌜ r ≡ columnIn q j ⌝ }
-{
-    if q == 0 {
-        return j;
-    }
-    if j + 1 < q {
-        return j;
-    }
-    j + 1
-}
+ghost use Rattle.model.specs.Limits.{degreeLimit};
+ghost use Rattle.records.specs.Others.{columnIn};
+ghost use Rattle.check_records.specs.Cover.{isCovered, rowCovered, RowDuals, Duals, Inside, zerosIn, dualsIn};
 
 // The gains of child i are covered: y is its dual, `across` are those of the l neighbours other than s.
 fn row_covered(g: &[u64; 64], i: usize, y: u64, across: &[u64; 8], l: usize, q: usize) -> bool
-    requires { ⌜ RowCover i y (now across) l q ⌝ }
+    requires { ⌜ RowDuals i y (now across) l q ⌝ }
     ensures { λ r. ⌜ r ≡ every (isCovered (now (g .entry)) i y (now (across .entry)) q) l ⌝ }
 {
     let mut ok = true;
@@ -49,7 +39,7 @@ fn all_covered(
     l: usize,
     q: usize,
 ) -> bool
-    requires { ⌜ AllCover (now below) (now across) k l q ⌝ }
+    requires { ⌜ Duals (now below) (now across) k l q ⌝ }
     ensures { λ r. ⌜ r ≡ every (rowCovered (now (g .entry)) (now (below .entry)) (now (across .entry)) l q) k ⌝ }
 {
     let mut ok = true;
@@ -64,19 +54,19 @@ fn all_covered(
 
 // The record of a forbidden pair: the forbidden value, and duals 0.
 pub fn forbidden_ok(z: &[u8], here: usize, k: usize, l: usize) -> bool
-    requires { ⌜ Standing (length (now z)) here k l ⌝ }
-    ensures { λ r. ⌜ r ≡ noughtIn (now (z .entry)) here k l ⌝ }
+    requires { ⌜ Inside (length (now z)) here k l ⌝ }
+    ensures { λ r. ⌜ r ≡ zerosIn (now (z .entry)) here k l ⌝ }
 {
     let value = integers::is_forbidden(int32_at(z, here + 2));
-    let below = all_nought(z, here + 6, k);
-    let across = all_nought(z, here + 6 + 4 * k, l);
+    let below = all_zero(z, here + 6, k);
+    let across = all_zero(z, here + 6 + 4 * k, l);
     value & (below & across)
 }
 
 // The record of a pair of weight w with gains g: duals of 0 or more that cover each branch, and the value is the weight plus all duals.
 pub fn duals_ok(z: &[u8], here: usize, k: usize, l: usize, q: usize, g: &[u64; 64], w: i32) -> bool
-    requires { ⌜ Standing (length (now z)) here k l ⌝ }
-    requires { ⌜ ((j : _) → j < l → columnIn q j < 8) ⌝ }
+    requires { ⌜ Inside (length (now z)) here k l ⌝ }
+    requires { ⌜ ((j : _) → j < l → columnIn q j < degreeLimit) ⌝ }
     ensures { λ r. ⌜ r ≡ dualsIn (now (z .entry)) here k l q (now (g .entry)) w ⌝ }
 {
     let first = here + 6;
@@ -86,7 +76,7 @@ pub fn duals_ok(z: &[u8], here: usize, k: usize, l: usize, q: usize, g: &[u64; 6
     let below = numbers_in(z, first, k);
     let across = numbers_in(z, next, l);
     let c = all_covered(g, &below, &across, k, l, q);
-    let total = assignment::total(k, l, &below, &across);
+    let total = total_of(&below, k) + total_of(&across, l);
     let t = is_sum(int32_at(z, here + 2), w, total);
     a & (b & (c & t))
 }

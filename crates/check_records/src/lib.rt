@@ -6,82 +6,38 @@ pub mod record;
 pub mod top;
 
 use crate::numbers::is_sum;
+use crate::numbers::wide;
 use crate::record::records_ok;
 use crate::top::greatest;
-use formats::neighbours::edge_label_table;
-use formats::neighbours::neighbour_table;
 use integers::int32_at;
-use records::record_sizes;
-use records::row_begins;
-use records::square_sums;
-use solver::plan::edge_weights;
-use solver::plan::starts;
-use trees::places;
-use trees::postorder;
-ghost use Prim.Native.Nat.{_+_, _*_};
+use plan::make::make;
+use records::places_of;
 ghost use mathlib.Core.Path.{_≡_};
-ghost use Rattle.model.specs.Certificate.{checkOf};
-ghost use Rattle.model.specs.Tree.{count};
-ghost use Rattle.solver.specs.Plan.{Ready};
+ghost use lib.ListN.{length};
+ghost use Rattle.model.specs.Certificate.{certificateLength, checkOf};
+ghost use Rattle.plan.specs.Plan.{Ready};
 ghost use Rattle.check_front.specs.Front.{FrontChecked};
 ghost use Rattle.check_records.specs.Items.{recordsItem};
-ghost use Rattle.check_records.specs.Gains.{Sized};
 
-// The first of the items 23 and 24 that applies, 0 for none. The records begin at `at`.
+// The first of the items 23 and 24 that applies, 0 for none.
 fn records_item(
     table: &[u8],
     recorded: &[u8],
     found: &[u8],
+    plan: &[[u8; 8]; 512],
     certificate: &[u8],
-    at: usize,
-    weights: &[i32; 64],
-    rnear: &[[u8; 8]; 64],
-    rlabels: &[[u8; 8]; 64],
-    fnear: &[[u8; 8]; 64],
-    flabels: &[[u8; 8]; 64],
-    order: &[u8; 64],
-    place: &[u8; 64],
-    starts: &[usize; 65],
 ) -> u32
-    requires { ⌜ Ready (now table) (now recorded) (now found) (now weights) (now rnear) (now rlabels) (now fnear) (now flabels) (now order) (now place) (now starts) ⌝ }
-    requires { ⌜ Sized (now recorded) (now found) (now certificate) ⌝ }
-    requires { ⌜ at ≡ 8 + 3 * count (now recorded) ⌝ }
+    requires { ⌜ Ready (now table) (now recorded) (now found) (now plan) ⌝ }
+    requires { ⌜ length (now certificate) ≡ certificateLength (now recorded) (now found) ⌝ }
     ensures { λ r. ⌜ r ≡ recordsItem (now (table .entry)) (now (recorded .entry)) (now (found .entry)) (now (certificate .entry)) ⌝ }
 {
-    let sums = square_sums(found, starts);
-    let sizes = record_sizes(recorded, rnear, rlabels, order, place);
-    let begins = row_begins(recorded, found, &sizes, &sums, at);
-    let ok = records_ok(
-        table,
-        recorded,
-        found,
-        certificate,
-        weights,
-        rnear,
-        rlabels,
-        fnear,
-        flabels,
-        order,
-        place,
-        starts,
-        &begins,
-        &sizes,
-        &sums,
-    );
+    let places = places_of(recorded, found, plan);
+    let ok = records_ok(table, recorded, found, plan, &places, certificate);
     if !ok {
         return 23;
     }
-    let top = greatest(
-        recorded,
-        found,
-        certificate,
-        &begins,
-        &sizes,
-        &sums,
-        starts,
-        place,
-    );
-    let same = is_sum(int32_at(certificate, 4), 0, top);
+    let top = greatest(recorded, found, plan, &places, certificate);
+    let same = is_sum(int32_at(certificate, 4), 0, wide(top));
     if !same {
         return 24;
     }
@@ -103,28 +59,6 @@ pub fn check_records(
     if refusal != 0 {
         return refusal;
     }
-    let weights = edge_weights(table);
-    let rnear = neighbour_table(recorded);
-    let rlabels = edge_label_table(recorded, &rnear);
-    let fnear = neighbour_table(found);
-    let flabels = edge_label_table(found, &fnear);
-    let o = postorder(&rnear);
-    let order = o.at;
-    let place = places(o);
-    let begins = starts(found, &fnear);
-    records_item(
-        table,
-        recorded,
-        found,
-        certificate,
-        at,
-        &weights,
-        &rnear,
-        &rlabels,
-        &fnear,
-        &flabels,
-        &order,
-        &place,
-        &begins,
-    )
+    let plan = make(recorded, found);
+    records_item(table, recorded, found, &plan, certificate)
 }

@@ -3,43 +3,30 @@ use crate::cover::duals_ok;
 use crate::cover::forbidden_ok;
 use crate::gains::gains;
 use formats::tree::vertex_count;
+use plan::child_count;
+use plan::degree;
+use plan::in_order;
+use plan::weights::vertex_pair;
+use records::others_of;
 use records::record_at;
-use solver::plan::behind;
-use solver::plan::kids;
-use solver::plan::taken;
-use solver::subproblem::pair_weight;
-use solver::subproblem::width_of;
-ghost use Prim.Native.Nat.{_+_, _<_, _≤_};
+ghost use Prim.Native.Nat.{_+_, _<_};
 ghost use mathlib.Core.Path.{_≡_};
 ghost use lib.ListN.{length};
 ghost use Rattle.foundations.specs.Lists.{every};
+ghost use Rattle.model.specs.Limits.{degreeLimit};
 ghost use Rattle.model.specs.Tree.{count};
 ghost use Rattle.model.specs.Graph.{neighbours};
 ghost use Rattle.model.specs.Order.{offset, width, subproblems};
 ghost use Rattle.model.specs.Certificate.{subproblemOk};
-ghost use Rattle.solver.specs.Plan.{Ready};
-ghost use Rattle.records.specs.Places.{Standing as Places};
-ghost use Rattle.records.specs.Rows.{Rows};
-ghost use Rattle.check_records.specs.Cover.{Standing, columnIn};
-ghost use Rattle.check_records.specs.Rules.{othersOf};
-ghost use Rattle.check_records.specs.Gains.{Sized};
-ghost use Rattle.check_records.specs.PairRecords.{recordIn, inRow, PairAt, RowOf};
-
-// How many neighbours other than s a vertex of degree d has, where s is the q-th choice.
-fn others_of(d: usize, q: usize) -> usize
-    requires { ⌜ q ≤ d ⌝ }
-    ensures { λ r. ⌜ r ≡ othersOf d q ⌝ }
-{
-    if q == 0 {
-        return d;
-    }
-    d - 1
-}
+ghost use Rattle.records.specs.Others.{columnIn};
+ghost use Rattle.check_records.specs.Cover.{Inside};
+ghost use Rattle.check_records.specs.Gains.{Given};
+ghost use Rattle.check_records.specs.Records.{recordIn, inRow, PairRead};
 
 // The record at `here` of a pair of weight w with gains g: u has n children, v has l neighbours other than the q-th choice.
 fn record_ok(z: &[u8], here: usize, n: usize, l: usize, q: usize, g: &[u64; 64], w: i32) -> bool
-    requires { ⌜ Standing (length (now z)) here n l ⌝ }
-    requires { ⌜ ((j : _) → j < l → columnIn q j < 8) ⌝ }
+    requires { ⌜ Inside (length (now z)) here n l ⌝ }
+    requires { ⌜ ((j : _) → j < l → columnIn q j < degreeLimit) ⌝ }
     ensures { λ r. ⌜ r ≡ recordIn (now (z .entry)) here n l q (now (g .entry)) w ⌝ }
 {
     if integers::is_forbidden(w) {
@@ -48,32 +35,29 @@ fn record_ok(z: &[u8], here: usize, n: usize, l: usize, q: usize, g: &[u64; 64],
     duals_ok(z, here, n, l, q, g, w)
 }
 
-// The records of the i-th vertex in postorder and v, one for each choice of s: the vertex has n children, v has degree d.
+// The records of the i-th vertex in postorder and v, one for each choice of s: a pair of weight w with gains g.
 fn choices_ok(
     table: &[u8],
     recorded: &[u8],
     found: &[u8],
+    plan: &[[u8; 8]; 512],
+    places: &[[usize; 2]; 65],
     certificate: &[u8],
-    starts: &[usize; 65],
-    begins: &[usize; 65],
-    sizes: &[usize; 64],
-    sums: &[usize; 65],
     i: usize,
     v: u8,
-    n: usize,
-    d: usize,
     g: &[u64; 64],
     w: i32,
 ) -> bool
-    requires { ⌜ Places (now recorded) (now found) (now starts) (now begins) (now sizes) (now sums) ⌝ }
-    requires { ⌜ Sized (now recorded) (now found) (now certificate) ⌝ }
-    requires { ⌜ PairAt (now table) (now recorded) (now found) (now certificate) i v n d (now g) w ⌝ }
-    ensures { λ r. ⌜ r ≡ every (λ q. inRow (now (table .entry)) (now (recorded .entry)) (now (found .entry)) (now (certificate .entry)) i (offset (now (found .entry)) v + q)) (d + 1) ⌝ }
+    requires { ⌜ Given (now table) (now recorded) (now found) (now plan) (now places) (now certificate) ⌝ }
+    requires { ⌜ PairRead (now table) (now recorded) (now found) (now plan) (now certificate) i v (now g) w ⌝ }
+    ensures { λ r. ⌜ r ≡ every (λ q. inRow (now (table .entry)) (now (recorded .entry)) (now (found .entry)) (now (certificate .entry)) i (offset (now (found .entry)) v + q)) (length (neighbours (now (found .entry)) v) + 1) ⌝ }
 {
+    let n = child_count(plan, in_order(plan, i));
+    let d = degree(plan, v);
     let mut ok = true;
     let mut q: usize = 0;
     while q <= d {
-        let here = record_at(recorded, found, begins, sizes, sums, starts, i, v, q);
+        let here = record_at(recorded, found, plan, places, i, v, q);
         let l = others_of(d, q);
         let t = record_ok(certificate, here, n, l, q, g, w);
         ok = ok & t;
@@ -82,125 +66,68 @@ fn choices_ok(
     ok
 }
 
-// The records of u, the i-th vertex in postorder, and v. The gains of the pair serve every s.
+// The records of the i-th vertex in postorder and v. The gains of the pair serve every s.
 fn pair_ok(
     table: &[u8],
     recorded: &[u8],
     found: &[u8],
+    plan: &[[u8; 8]; 512],
+    places: &[[usize; 2]; 65],
     certificate: &[u8],
-    weights: &[i32; 64],
-    fnear: &[[u8; 8]; 64],
-    flabels: &[[u8; 8]; 64],
-    place: &[u8; 64],
-    starts: &[usize; 65],
-    begins: &[usize; 65],
-    sizes: &[usize; 64],
-    sums: &[usize; 65],
-    label: &[u8; 8],
-    vertex: &[u8; 8],
     i: usize,
-    u: u8,
     v: u8,
-    n: usize,
 ) -> bool
-    requires { ⌜ Sized (now recorded) (now found) (now certificate) ⌝ }
-    requires { ⌜ RowOf (now table) (now recorded) (now found) (now weights) (now fnear) (now flabels) (now place) (now starts) (now label) (now vertex) (now begins) (now sizes) (now sums) i u n ⌝ }
-    requires { ⌜ v < count (now found) ⌝ }
+    requires { ⌜ Given (now table) (now recorded) (now found) (now plan) (now places) (now certificate) ⌝ }
+    requires { ⌜ (i < count (now recorded)) × (v < count (now found)) ⌝ }
     ensures { λ r. ⌜ r ≡ every (λ q. inRow (now (table .entry)) (now (recorded .entry)) (now (found .entry)) (now (certificate .entry)) i (offset (now (found .entry)) v + q)) (length (neighbours (now (found .entry)) v) + 1) ⌝ }
 {
-    let w = pair_weight(table, recorded, found, u, v);
-    let b = v as usize;
-    let names = fnear[b];
-    let labels = flabels[b];
-    let d = taken(names);
-    let back = behind(fnear, starts, v);
+    let u = in_order(plan, i);
+    let w = vertex_pair(table, recorded, found, u, v);
     let mut g = [0u64; 64];
     gains(
         &mut g,
+        table,
         recorded,
         found,
+        plan,
+        places,
         certificate,
-        weights,
-        place,
-        begins,
-        sizes,
-        sums,
-        starts,
-        label,
-        vertex,
-        n,
-        &names,
-        &labels,
-        &back,
-        d,
+        u,
+        v,
     );
     choices_ok(
         table,
         recorded,
         found,
+        plan,
+        places,
         certificate,
-        starts,
-        begins,
-        sizes,
-        sums,
         i,
         v,
-        n,
-        d,
         &g,
         w,
     )
 }
 
-// The records of u, the i-th vertex in postorder, which has n children.
+// The records of the i-th vertex in postorder.
 fn row_ok(
     table: &[u8],
     recorded: &[u8],
     found: &[u8],
+    plan: &[[u8; 8]; 512],
+    places: &[[usize; 2]; 65],
     certificate: &[u8],
-    weights: &[i32; 64],
-    fnear: &[[u8; 8]; 64],
-    flabels: &[[u8; 8]; 64],
-    place: &[u8; 64],
-    starts: &[usize; 65],
-    begins: &[usize; 65],
-    sizes: &[usize; 64],
-    sums: &[usize; 65],
-    label: &[u8; 8],
-    vertex: &[u8; 8],
     i: usize,
-    u: u8,
-    m: usize,
-    n: usize,
 ) -> bool
-    requires { ⌜ Sized (now recorded) (now found) (now certificate) ⌝ }
-    requires { ⌜ RowOf (now table) (now recorded) (now found) (now weights) (now fnear) (now flabels) (now place) (now starts) (now label) (now vertex) (now begins) (now sizes) (now sums) i u n ⌝ }
-    requires { ⌜ m ≡ count (now found) ⌝ }
+    requires { ⌜ Given (now table) (now recorded) (now found) (now plan) (now places) (now certificate) ⌝ }
+    requires { ⌜ i < count (now recorded) ⌝ }
     ensures { λ r. ⌜ r ≡ every (inRow (now (table .entry)) (now (recorded .entry)) (now (found .entry)) (now (certificate .entry)) i) (width (now (found .entry))) ⌝ }
 {
+    let m = vertex_count(found);
     let mut ok = true;
     let mut v: u8 = 0;
     while (v as usize) < m {
-        let t = pair_ok(
-            table,
-            recorded,
-            found,
-            certificate,
-            weights,
-            fnear,
-            flabels,
-            place,
-            starts,
-            begins,
-            sizes,
-            sums,
-            label,
-            vertex,
-            i,
-            u,
-            v,
-            n,
-        );
+        let t = pair_ok(table, recorded, found, plan, places, certificate, i, v);
         ok = ok & t;
         v += 1;
     }
@@ -212,55 +139,18 @@ pub fn records_ok(
     table: &[u8],
     recorded: &[u8],
     found: &[u8],
+    plan: &[[u8; 8]; 512],
+    places: &[[usize; 2]; 65],
     certificate: &[u8],
-    weights: &[i32; 64],
-    rnear: &[[u8; 8]; 64],
-    rlabels: &[[u8; 8]; 64],
-    fnear: &[[u8; 8]; 64],
-    flabels: &[[u8; 8]; 64],
-    order: &[u8; 64],
-    place: &[u8; 64],
-    starts: &[usize; 65],
-    begins: &[usize; 65],
-    sizes: &[usize; 64],
-    sums: &[usize; 65],
 ) -> bool
-    requires { ⌜ Ready (now table) (now recorded) (now found) (now weights) (now rnear) (now rlabels) (now fnear) (now flabels) (now order) (now place) (now starts) ⌝ }
-    requires { ⌜ Rows (now recorded) (now found) (now begins) (now sizes) (now sums) ⌝ }
-    requires { ⌜ Sized (now recorded) (now found) (now certificate) ⌝ }
+    requires { ⌜ Given (now table) (now recorded) (now found) (now plan) (now places) (now certificate) ⌝ }
     ensures { λ r. ⌜ r ≡ every (subproblemOk (now (table .entry)) (now (recorded .entry)) (now (found .entry)) (now (certificate .entry))) (subproblems (now (recorded .entry)) (now (found .entry))) ⌝ }
 {
     let n = vertex_count(recorded);
-    let m = vertex_count(found);
-    let wide = width_of(found);
     let mut ok = true;
     let mut i: usize = 0;
     while i < n {
-        let u = order[i];
-        let a = u as usize;
-        let row = kids(rnear[a], rlabels[a], place, place[a], wide);
-        let label = row.label;
-        let vertex = row.vertex;
-        let t = row_ok(
-            table,
-            recorded,
-            found,
-            certificate,
-            weights,
-            fnear,
-            flabels,
-            place,
-            starts,
-            begins,
-            sizes,
-            sums,
-            &label,
-            &vertex,
-            i,
-            u,
-            m,
-            row.count,
-        );
+        let t = row_ok(table, recorded, found, plan, places, certificate, i);
         ok = ok & t;
         i += 1;
     }

@@ -1,55 +1,58 @@
 //! The greater of 0 and the largest recorded value with s = v.
 use crate::gains::value_in;
-use crate::numbers::above_zero;
 use formats::tree::vertex_count;
-ghost use Prim.Native.Nat.{_+_, max};
+use integers::above_zero;
+use plan::offset;
+use plan::place;
+use records::begin;
+use records::size;
+ghost use Prim.Native.Nat.{_<_, max, _^_};
 ghost use mathlib.Core.Path.{_≡_};
+ghost use lib.ListN.{length};
 ghost use Rattle.model.specs.Tree.{count};
-ghost use Rattle.records.specs.Places.{Standing};
-ghost use Rattle.check_records.specs.Gains.{Sized};
-ghost use Rattle.check_records.specs.Greatest.{Places, RowTop, Greatest};
+ghost use Rattle.model.specs.Certificate.{certificateLength};
+ghost use Rattle.records.specs.Places.{Laid};
+ghost use Rattle.check_records.specs.Greatest.{most, ownMost};
 
-fn greater(a: u64, b: u64) -> u64
+fn greater(a: u32, b: u32) -> u32
     ensures { λ r. ⌜ r ≡ max a b ⌝ }
 {
     if a < b { b } else { a }
 }
 
-// With the values of the row-th vertex u in postorder too; m is the found tree's vertex count.
+// Of recorded vertex u.
 fn top_of_row(
     recorded: &[u8],
     found: &[u8],
+    plan: &[[u8; 8]; 512],
+    places: &[[usize; 2]; 65],
     certificate: &[u8],
-    begins: &[usize; 65],
-    sizes: &[usize; 64],
-    sums: &[usize; 65],
-    starts: &[usize; 65],
-    place: &[u8; 64],
     u: u8,
-    m: usize,
-    t: u64,
-) -> u64
-    requires { ⌜ Standing (now recorded) (now found) (now starts) (now begins) (now sizes) (now sums) ⌝ }
-    requires { ⌜ Sized (now recorded) (now found) (now certificate) ⌝ }
-    requires { ⌜ RowTop (now recorded) (now found) (now starts) (now place) u m ⌝ }
-    requires { ⌜ Greatest (now recorded) (now found) (now certificate) u 0 t ⌝ }
-    ensures { λ r. ⌜ Greatest (now (recorded .entry)) (now (found .entry)) (now (certificate .entry)) (u + 1) 0 r ⌝ }
+) -> u32
+    requires { ⌜ Laid (now recorded) (now found) (now plan) (now places) ⌝ }
+    requires { ⌜ length (now certificate) ≡ certificateLength (now recorded) (now found) ⌝ }
+    requires { ⌜ u < count (now recorded) ⌝ }
+    ensures { λ r. ⌜ (r ≡ ownMost (now (recorded .entry)) (now (found .entry)) (now (certificate .entry)) u) × (r < 2 ^ 31) ⌝ }
 {
-    let row = place[u as usize] as usize;
-    let mut top = t;
+    let m = vertex_count(found);
+    let row = place(plan, u);
+    let first = begin(places, row);
+    let own = size(plan, row);
+    let mut top: u32 = 0;
     let mut v: u8 = 0;
     while (v as usize) < m {
+        let b = offset(plan, v);
         let x = above_zero(value_in(
             recorded,
             found,
+            plan,
+            places,
             certificate,
-            begins,
-            sizes,
-            sums,
-            starts,
             row,
+            first,
+            own,
             v,
-            starts[v as usize],
+            b,
         ));
         let next = greater(top, x);
         top = next;
@@ -62,38 +65,22 @@ fn top_of_row(
 pub fn greatest(
     recorded: &[u8],
     found: &[u8],
+    plan: &[[u8; 8]; 512],
+    places: &[[usize; 2]; 65],
     certificate: &[u8],
-    begins: &[usize; 65],
-    sizes: &[usize; 64],
-    sums: &[usize; 65],
-    starts: &[usize; 65],
-    place: &[u8; 64],
-) -> u64
-    requires { ⌜ Standing (now recorded) (now found) (now starts) (now begins) (now sizes) (now sums) ⌝ }
-    requires { ⌜ Sized (now recorded) (now found) (now certificate) ⌝ }
-    requires { ⌜ Places (now recorded) (now place) ⌝ }
-    ensures { λ r. ⌜ Greatest (now (recorded .entry)) (now (found .entry)) (now (certificate .entry)) (count (now (recorded .entry))) 0 r ⌝ }
+) -> u32
+    requires { ⌜ Laid (now recorded) (now found) (now plan) (now places) ⌝ }
+    requires { ⌜ length (now certificate) ≡ certificateLength (now recorded) (now found) ⌝ }
+    ensures { λ r. ⌜ (r ≡ most (ownMost (now (recorded .entry)) (now (found .entry)) (now (certificate .entry))) (count (now (recorded .entry)))) × (r < 2 ^ 31) ⌝ }
 {
     let n = vertex_count(recorded);
-    let m = vertex_count(found);
-    let mut top: u64 = 0;
+    let mut all: u32 = 0;
     let mut u: u8 = 0;
     while (u as usize) < n {
-        let next = top_of_row(
-            recorded,
-            found,
-            certificate,
-            begins,
-            sizes,
-            sums,
-            starts,
-            place,
-            u,
-            m,
-            top,
-        );
-        top = next;
+        let x = top_of_row(recorded, found, plan, places, certificate, u);
+        let next = greater(all, x);
+        all = next;
         u += 1;
     }
-    top
+    all
 }

@@ -12,9 +12,10 @@ ghost use lib.ListN.{length};
 ghost use Rattle.model.specs.Tree.{count};
 ghost use Rattle.model.specs.Input.{tablePart, recordedPart, foundPart};
 ghost use Rattle.model.specs.Match.{MatchCall};
+ghost use Rattle.console.specs.Room.{PartsLeave};
 
 // The match of the three parts of an input.
-pub fn match_input(input: &[u8], work: &mut [i32], mapping: &mut [u8]) -> MatchAnswer
+fn match_input(input: &[u8], work: &mut [i32], mapping: &mut [u8]) -> MatchAnswer
     ensures { λ r. ⌜ MatchCall (tablePart (now (input .entry))) (recordedPart (now (input .entry))) (foundPart (now (input .entry))) (now (work .entry)) (now (mapping .entry)) (now (work .exit)) (now (mapping .exit)) r ⌝ }
 {
     let p = split(input);
@@ -71,8 +72,12 @@ fn recorded_count(input: &[u8]) -> usize
     byte_or_zero(&input[a..b], 2) as usize
 }
 
-// Matches the input and prints the weight and every recorded vertex's partner, or the number of the item that turns it down.
-pub fn print_match(input: &[u8], work: &mut [i32], mapping: &mut [u8]) {
+// Entry point.
+// Matches the input and prints the weight and every recorded vertex's partner, or the number of the item that refuses it. It leaves what the match
+// leaves.
+pub fn print_match(input: &[u8], work: &mut [i32], mapping: &mut [u8])
+    ensures { λ _. ⌜ PartsLeave (now (input .entry)) (now (work .entry)) (now (mapping .entry)) (now (work .exit)) (now (mapping .exit)) ⌝ }
+{
     let n = recorded_count(input);
     match match_input(input, work, mapping) {
         MatchAnswer::Found(w) => {

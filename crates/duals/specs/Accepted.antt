@@ -95,17 +95,17 @@ module _ (table r f : List ℕ) (passes : inputItem table r f ≡ 0) (work : Lis
   value-recalled u v s q = ap weighed (left (index r f u v s) (index-low-at table r f A u v s q) .value)
 
   -- a forbidden pair
-  barred-ok : (k : ℕ) → k < subproblems r f → vertexPair table r f (uAt r f k) (vAt f k) ≡ none → forbiddenOk r f z k (uAt r f k) (vAt f k) (sAt f k) ≡ true
+  forbidden-ok : (k : ℕ) → k < subproblems r f → vertexPair table r f (uAt r f k) (vAt f k) ≡ none → forbiddenOk r f z k (uAt r f k) (vAt f k) (sAt f k) ≡ true
   unfolding forbiddenOk number isForbidden
-  barred-ok k l e =
+  forbidden-ok k l e =
       let L = left k l in
       let v = vAt f k in
       let s = sAt f k in
       let none-is : value table r f (uAt r f k) v s ≡ none = value-forbidden table r f A (uAt r f k) v s (sub-at k l) .1 e in
       and-both (isForbidden (valueIn r f z k)) _ (ap isForbidden (L .value ∙ work-at table r f passes work right k l ∙ ap number none-is))
       (and-both (every (λ i. eqZ (childDual r f z k i) (pos 0)) (length (children r (uAt r f k)))) _
-      (every-all (λ i. eqZ (childDual r f z k i) (pos 0)) (length (children r (uAt r f k))) (λ i h. eqZ-same (childDual r f z k i) (pos 0) (L .ofChild i h ∙ ap pos (L .duals .barred e .0 i h))))
-      (every-all (λ j. eqZ (otherDual r f z k j) (pos 0)) (length (others f v s)) (λ j h. eqZ-same (otherDual r f z k j) (pos 0) (L .ofOther j h ∙ ap pos (L .duals .barred e .1 (place (getD (others f v s) j 0) (neighbours f v)) (other-at f v s j h .low))))))
+      (every-all (λ i. eqZ (childDual r f z k i) (pos 0)) (length (children r (uAt r f k))) (λ i h. eqZ-same (childDual r f z k i) (pos 0) (L .ofChild i h ∙ ap pos (L .duals .zeros e .0 i h))))
+      (every-all (λ j. eqZ (otherDual r f z k j) (pos 0)) (length (others f v s)) (λ j h. eqZ-same (otherDual r f z k j) (pos 0) (L .ofOther j h ∙ ap pos (L .duals .zeros e .1 (place (getD (others f v s) j 0) (neighbours f v)) (other-at f v s j h .low))))))
 
   -- a pair of branches is covered by its two duals
   cover-ok : (k : ℕ) → k < subproblems r f → (w : ℤ) → vertexPair table r f (uAt r f k) (vAt f k) ≡ some w → (i j : ℕ) → i < length (children r (uAt r f k)) → j < length (others f (vAt f k) (sAt f k)) → coverOk table r f z k (uAt r f k) (vAt f k) (sAt f k) i j ≡ true
@@ -154,7 +154,7 @@ module _ (table r f : List ℕ) (passes : inputItem table r f ≡ 0) (work : Lis
   record-ok k l = go (vertexPair table r f (uAt r f k) (vAt f k)) refl
     where
       go : (x : Weight) → vertexPair table r f (uAt r f k) (vAt f k) ≡ x → pairOk table r f z k (uAt r f k) (vAt f k) (sAt f k) x ≡ true
-      go none e = barred-ok k l e
+      go none e = forbidden-ok k l e
       go (some w) e = duals-ok k l w e
 
   -- the recorded values solve the subproblems, and so the largest is the answer

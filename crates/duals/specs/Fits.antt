@@ -9,6 +9,7 @@ use lib.IntN.{ℤ, pos, _+ℤ_}
 use Rattle.foundations.specs.Int.{int}
 use Rattle.foundations.specs.Sums.{sum}
 use Rattle.foundations.specs.Tests.{same?}
+use Rattle.model.specs.Limits.{dualLimit}
 use Rattle.model.specs.Weights.{Weight, none, some}
 use Rattle.model.specs.Graph.{neighbours}
 use Rattle.model.specs.Order.{children, subproblems, uAt, vAt, sAt}
@@ -53,16 +54,16 @@ module _ (table r f : List ℕ) (passes : inputItem table r f ≡ 0) (work : Lis
 
 -- the value is at most 127,000,000 and the weight at least -1,000,000
 pub dual-fits : (table r f : List ℕ) (work : List ℤ) (u v s : ℕ) (y z : List ℕ) → DualsAt table r f work u v s y z → Subproblem r f u v s → inputItem table r f ≡ 0 → take (subproblems r f) work ≡ values table r f →
-    ((i : ℕ) → i < length (children r u) → getD y i 0 ≤ 128000000) × ((j : ℕ) → j < length (neighbours f v) → getD z j 0 ≤ 128000000)
+    ((i : ℕ) → i < length (children r u) → getD y i 0 ≤ dualLimit) × ((j : ℕ) → j < length (neighbours f v) → getD z j 0 ≤ dualLimit)
 dual-fits table r f work u v s y z D q passes right = go (vertexPair table r f u v) refl
   where
-    go : (x : Weight) → vertexPair table r f u v ≡ x → ((i : ℕ) → i < length (children r u) → getD y i 0 ≤ 128000000) × ((j : ℕ) → j < length (neighbours f v) → getD z j 0 ≤ 128000000)
-    go none e = (λ i h. let a = D .barred e .0 i h in omega arith, λ j h. let a = D .barred e .1 j h in omega arith)
+    go : (x : Weight) → vertexPair table r f u v ≡ x → ((i : ℕ) → i < length (children r u) → getD y i 0 ≤ dualLimit) × ((j : ℕ) → j < length (neighbours f v) → getD z j 0 ≤ dualLimit)
+    go none e = (λ i h. let a = D .zeros e .0 i h in omega arith, λ j h. let a = D .zeros e .1 j h in omega arith)
     go (some w) e =
         let A = input-accepted table r f passes in
         let S = sum (length (children r u)) (λ i. getD y i 0) in
         let Z = sum (length (neighbours f v)) (λ j. getD z j 0) in
         let high = value-range table r f A u v s q _ (duals-value table r f passes work right u v s y z D q w e) .1 in
         let low = vertex-range table r f A u v (q .u-low) (q .v-low) w e .0 in
-        let all : S + Z ≤ 128000000 = omega int in
+        let all : S + Z ≤ dualLimit = omega int in
         (λ i h. let a = term-most (length (children r u)) i (λ i. getD y i 0) h in omega arith, λ j h. let a = term-most (length (neighbours f v)) j (λ j. getD z j 0) h in omega arith)

@@ -1,31 +1,70 @@
--- From the assignment's answer for the gains of a subproblem to duals of the subproblem. Assumes nothing.
+-- From the assignment's answer for the gains of a pair of vertices to duals of its subproblems. Assumes nothing.
 use mathlib.Core.Path.{_≡_, refl, sym, ap, _∙_, subst}
 use mathlib.Core.Logic.{⊎-elim, _≢_}
-use mathlib.Core.Bool.{true, false}
+use mathlib.Core.Bool.{Bool, true, false, true≢false}
 use mathlib.Core.List.{List}
-use Prim.Native.Nat.{ℕ, zero, suc, _+_, _≤_, _<_}
+use Prim.Native.Nat.{ℕ, zero, suc, _+_, _*_, _≤_, _<_}
 use native.Mathlib.Omega.{arith}
 use lib.ListN.{length, getD, replicate}
 use lib.IntN.{ℤ, pos}
 use borrow.Author.Tests.{eq-eqb, ne-eqb}
 use Rattle.foundations.specs.Int.{ints, canon}
 use Rattle.foundations.specs.Members.{del}
-use Rattle.model.specs.Weights.{Weight, none, some, weighed, plusW, isForbidden}
+use Rattle.model.specs.Weights.{Weight, none, some, plusW, isForbidden}
 use Rattle.model.specs.Graph.{neighbours}
-use Rattle.model.specs.Order.{children}
+use Rattle.model.specs.Order.{children, choices}
 use Rattle.model.specs.Pairs.{vertexPair}
 use Rattle.model.specs.Values.{best, branch, valueFrom, recalled}
 use Rattle.model.specs.Certificate.{atMost}
 use Rattle.subtrees.specs.WeightLaws.{none≢some}
 use Rattle.assignment.specs.Matching.{at, cell}
 use Rattle.assignment.specs.State.{Solved, Answer}
-use Rattle.solver.specs.Exact.{upW, branchGain, Gains, solved-best}
-use Rattle.solver.specs.Branches.{gainAt, gainsOf, Filled, Stands, weighed-none, weighed-number}
+use Rattle.plan.specs.Plan.{childCountIn, degreeIn, Ready, Pair}
+use Rattle.plan.specs.Pairs.{VertexPair, upW, gainAt, Filled, weighed-none, weighed-number, children-is, degree-is, children-few, degree-few}
+use Rattle.solver.specs.Exact.{branchGain, Gains, solved-dual, solved-best}
+use Rattle.solver.specs.Heaviest.{LeftOut, Table, Stands, stands-gains}
+use Rattle.solver.specs.FillLaws.{choice-stands}
 use Rattle.duals.specs.Left.{DualsAt}
 
--- y and z are duals of whatever subproblem the arrays stand for, w the weight of its pair
-pub record DualsOf (k l : ℕ) (weights work : List ℤ) (label base names labels back : List ℕ) (s : ℕ) (w : ℤ) (y z : List ℕ) : Type 0 where
-  pub is : (table r f : List ℕ) (u v : ℕ) → vertexPair table r f u v ≡ weighed w → Stands k l weights work label base names labels back (branch table r f (recalled r f work) u v) (children r u) (neighbours f v) → DualsAt table r f work u v s y z
+-- ---- what the functions give
+
+-- a table of gains of u's children with v's neighbours; a forbidden pair's mean nothing
+pub record PairGains (table r f : List ℕ) (work : List ℤ) (u v : ℕ) (w : ℤ) (g : List ℕ) : Type 0 where
+  pub long : length g ≡ 64
+  pub small : (i j : ℕ) → i < length (children r u) → j < length (neighbours f v) → cell g i j ≤ 4294967294
+  pub filled : isForbidden w ≡ false → Filled (length (children r u)) (length (neighbours f v)) (gainAt table r f (recalled r f work) u v) g
+
+-- y and z are the duals of the answer for the gains g without the column that choice c leaves out
+pub record Matched (k l c : ℕ) (g y z : List ℕ) : Type 0 where
+  pub h : List ℕ
+  pub m : List ℕ
+  pub left-out : LeftOut k c g h
+  pub answer : Answer k l (cell h) y z m
+
+-- for a pair of weight w
+pub record DualsOf (w : ℤ) (k l c : ℕ) (g y z : List ℕ) : Type 0 where
+  pub zeros : isForbidden w ≡ true → (y ≡ replicate 8 0) × (z ≡ replicate 8 0)
+  pub matched : isForbidden w ≡ false → Matched k l c g y z
+
+both-ways : {b : Bool} → b ≡ true → b ≡ false → ⊥
+both-ways e q = true≢false (sym e ∙ q)
+
+pub duals-none : (w : ℤ) (k l c : ℕ) (g : List ℕ) → isForbidden w ≡ true → DualsOf w k l c g (replicate 8 0) (replicate 8 0)
+duals-none w k l c g e = record { zeros = λ q. (refl, refl); matched = λ q. absurd (both-ways e q) }
+
+pub duals-matched : {w : ℤ} {k l c : ℕ} {g h y z m : List ℕ} → isForbidden w ≡ false → LeftOut k c g h → Answer k l (cell h) y z m → DualsOf w k l c g y z
+duals-matched {h = h} {m = m} e O B = record { zeros = λ q. absurd (both-ways q e); matched = λ q. record { h = h; m = m; left-out = O; answer = B } }
+
+zeros-at : (n i : ℕ) → getD (replicate {A = ℕ} n 0) i 0 ≡ 0
+zeros-at zero i = refl
+zeros-at (suc n) zero = refl
+zeros-at (suc n) (suc i) = zeros-at n i
+
+pub gains-none : {table r f : List ℕ} {work : List ℤ} {u v : ℕ} {w : ℤ} → isForbidden w ≡ true → PairGains table r f work u v w (replicate 64 0)
+gains-none e = record { long = refl; small = λ i j hi hj. omega (arith, zeros-at 64 (i * 8 + j)); filled = λ q. absurd (both-ways e q) }
+
+pub gains-filled : {table r f : List ℕ} {work : List ℤ} {u v : ℕ} {w : ℤ} {g : List ℕ} → Filled (length (children r u)) (length (neighbours f v)) (gainAt table r f (recalled r f work) u v) g → PairGains table r f work u v w g
+gains-filled D = record { long = D .long; small = λ i j hi hj. D .get i j hi hj .1; filled = λ q. D }
 
 -- ---- the answer for gains
 
@@ -53,56 +92,80 @@ module _ (w : ℕ → ℕ → Weight) (s : ℕ) (cs A : List ℕ) (g : ℕ → �
       let c : g i j ≤ y i + z j = S .feasible i j hi hj in
       up-covered (w (getD cs i 0) (getD A j 0)) (y i + z j) (omega arith)
 
--- ---- in arrays
+-- ---- over the trees
 
-zeros : (n i : ℕ) → getD (replicate {A = ℕ} n 0) i 0 ≡ 0
-zeros zero i = refl
-zeros (suc n) zero = refl
-zeros (suc n) (suc i) = zeros n i
+module _ {table r f : List ℕ} {plan : List (List ℕ)} (N : Ready table r f plan) {u v : ℕ} (Q : Pair r f u v) {work : List ℤ} {w : ℤ} {g : List ℕ} (G : PairGains table r f work u v w g)
+    {k l : ℕ} (ek : k ≡ childCountIn plan u) (el : l ≡ degreeIn plan v) (c : ℕ) (low : c ≤ length (neighbours f v)) where
+  -- the table that the matching takes
+  pub pair-table : Table k l c (cell g)
+  pair-table =
+      let a : k ≡ length (children r u) = ek ∙ children-is N Q in
+      let b : l ≡ length (neighbours f v) = el ∙ degree-is N Q in
+      record {
+        rows = omega (arith, children-few N Q);
+        columns = omega (arith, degree-few N Q);
+        choice = omega arith;
+        small = λ i j hi hj. G .small i j (omega arith) (omega arith);
+      }
 
-module _ (k l : ℕ) (weights work : List ℤ) (label base names labels back : List ℕ) (s : ℕ) (w : ℤ) where
-  -- a forbidden pair has zeros
-  pub duals-none : isForbidden w ≡ true → DualsOf k l weights work label base names labels back s w (replicate 8 0) (replicate 8 0)
-  duals-none h = record {
-    is = λ table r f u v e S.
-        let b : vertexPair table r f u v ≡ none = e ∙ weighed-none w h in
+  module _ (P : VertexPair table r f u v w) {y z : List ℕ} (D : DualsOf w k l c g y z) where
+    abbrev s : ℕ
+    s = getD (choices f v) c 0
+
+    -- a forbidden pair has zeros
+    at-none : isForbidden w ≡ true → DualsAt table r f work u v s y z
+    at-none h =
+        let b : vertexPair table r f u v ≡ none = P .is ∙ weighed-none w h in
+        let ey : y ≡ replicate 8 0 = D .zeros h .0 in
+        let ez : z ≡ replicate 8 0 = D .zeros h .1 in
         record {
-          long = (refl, refl);
-          barred = λ q. (λ i a. zeros 8 i, λ j a. zeros 8 j);
-          own = λ j a q. zeros 8 j;
+          long = (ap length ey, ap length ez);
+          zeros = λ q. (λ i a. rw ey (zeros-at 8 i), λ j a. rw ez (zeros-at 8 j));
+          own = λ j a q. rw ez (zeros-at 8 j);
           cover = λ x q. absurd (none≢some x (sym b ∙ q));
           total = λ x q. absurd (none≢some x (sym b ∙ q));
-        };
-  }
+        }
 
-  module _ (g y z m : List ℕ) (D : Filled k l (gainsOf weights work label base names labels back s) g) (B : Answer k l (cell g) y z m) where
-    stands-gains : {b : ℕ → ℕ → Weight} {cs A : List ℕ} → Stands k l weights work label base names labels back b cs A → Gains b s cs A (cell g)
-    unfolding gainAt branchGain
-    stands-gains S = record {
-      is = λ i j hi hj.
-          let p : i < k = omega (arith, S .rows) in
-          let q : j < l = omega (arith, S .columns) in
-          D .get i j p q .0 ∙ rw (S .named j q, S .weighs i j p q);
-    }
+    module _ (h : isForbidden w ≡ false) where
+      abbrev weigh : ℕ → ℕ → Weight
+      weigh = branch table r f (recalled r f work) u v
 
-    stands-solved : {b : ℕ → ℕ → Weight} {cs A : List ℕ} → Stands k l weights work label base names labels back b cs A → Solved (length cs) (length A) (cell g) (at y) (at z) (at m)
-    stands-solved S = rw (S .rows, S .columns) (B .solved)
+      M : Matched k l c g y z
+      M = D .matched h
 
-    -- any other has those of the answer
-    pub duals-solved : isForbidden w ≡ false → DualsOf k l weights work label base names labels back s w y z
-    unfolding valueFrom
-    duals-solved h = record {
-      is = λ table r f u v e S.
-          let b : vertexPair table r f u v ≡ some w = e ∙ weighed-number w h in
-          let G = stands-gains S in
-          let O = stands-solved S in
+      stands : Stands k l c weigh s (children r u) (neighbours f v) (cell g)
+      stands = choice-stands N Q work g k l c ek el (G .filled h) low
+
+      left-gains : Gains weigh s (children r u) (neighbours f v) (cell (M .h))
+      left-gains = record {
+        is = λ i j hi hj.
+            let a = stands .rows in
+            let b = stands .columns in
+            let d = degree-few N Q in
+            M .left-out .is i j (omega arith) (omega arith) ∙ stands-gains stands .is i j hi hj;
+      }
+
+      solved : Solved (length (children r u)) (length (neighbours f v)) (cell (M .h)) (at y) (at z) (at (M .m))
+      solved = rw (stands .rows, stands .columns) (M .answer .solved)
+
+      -- any other has those of the answer
+      at-matched : DualsAt table r f work u v s y z
+      unfolding valueFrom
+      at-matched =
+          let b : vertexPair table r f u v ≡ some w = P .is ∙ weighed-number w h in
           record {
-            long = (B .sizes .rows, B .sizes .columns);
-            barred = λ q. absurd (none≢some w (sym q ∙ b));
-            own = solved-own (branch table r f (recalled r f work) u v) s (children r u) (neighbours f v) (cell g) (at y) (at z) (at m) G O;
-            cover = λ x q. solved-cover (branch table r f (recalled r f work) u v) s (children r u) (neighbours f v) (cell g) (at y) (at z) (at m) G O;
+            long = (M .answer .sizes .rows, M .answer .sizes .columns);
+            zeros = λ q. absurd (none≢some w (sym q ∙ b));
+            own = solved-own weigh s (children r u) (neighbours f v) (cell (M .h)) (at y) (at z) (at (M .m)) left-gains solved;
+            cover = λ x q. solved-cover weigh s (children r u) (neighbours f v) (cell (M .h)) (at y) (at z) (at (M .m)) left-gains solved;
             total = λ x q.
-                ap (λ (p : Weight). plusW p (best (branch table r f (recalled r f work) u v) (children r u) (del s (neighbours f v)))) q
-                ∙ ap (plusW (some x)) (solved-best (branch table r f (recalled r f work) u v) s (children r u) (neighbours f v) (cell g) (at y) (at z) (at m) G O (S .rows-apart) (S .columns-apart));
-          };
-    }
+                ap (λ (p : Weight). plusW p (best weigh (children r u) (del s (neighbours f v)))) q
+                ∙ ap (plusW (some x)) (solved-best weigh s (children r u) (neighbours f v) (cell (M .h)) (at y) (at z) (at (M .m)) left-gains (solved-dual solved) (stands .rows-apart) (stands .columns-apart));
+          }
+
+    pub duals-at : DualsAt table r f work u v s y z
+    duals-at = go (isForbidden w) refl
+      where
+        go : (b : Bool) → isForbidden w ≡ b → DualsAt table r f work u v s y z
+        go true e = at-none e
+        go false e = at-matched e

@@ -1,5 +1,7 @@
 -- What the exported functions promise.
-pub mod Exported
 pub mod Memory
+pub mod Exported
 pub mod MemoryLaws
+pub mod Answers
 pub mod Numbers
+pub mod SlicedCalls

@@ -5,7 +5,7 @@ ghost use Rattle.model.specs.Certificate.{checkOf};
 ghost use Rattle.model.specs.Writing.{writeRefusal, lengthOf};
 ghost use Rattle.exports.specs.Exported.{Writes};
 
-// The answer of writing as two numbers: the item that turned the call down, 0 for none, and the certificate's length in bytes, 0 where there is none.
+// The answer of writing as two numbers: the item that refused the call, 0 for none, and the certificate's length in bytes, 0 where there is none.
 #[repr(C)]
 pub struct WriteResult {
     pub refusal: u32,
@@ -27,6 +27,7 @@ fn write_result(a: WriteAnswer) -> WriteResult
     }
 }
 
+// Entry point.
 // Writes a certificate into the front of `certificate`.
 #[no_mangle]
 pub extern "C" fn pensummer_write(
@@ -42,7 +43,8 @@ pub extern "C" fn pensummer_write(
     write_result(a)
 }
 
-// Checks a certificate: 0 for accepted, else the item that turned it down. What an accepted one shows: `certificate-sound` (crates/certificate).
+// Entry point.
+// Checks a certificate: 0 for accepted, else the item that refused it. What an accepted one shows: `certificate-sound` (crates/certificate).
 #[no_mangle]
 pub extern "C" fn pensummer_check(
     table: &[u8],

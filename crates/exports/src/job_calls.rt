@@ -1,4 +1,5 @@
-//! The C interface of jobs: each call is a thin function over one that takes the caller's record by value. Any bytes may stand in that record.
+//! The C interface of jobs: the job's record is lent by `&mut` to start and to advance, thin functions over a covered core that takes it by value, and
+//! by `&` to finish. Any bytes may stand in that record.
 use crate::MatchResult;
 use crate::numbers;
 use model::AdvanceAnswer;
@@ -6,11 +7,11 @@ use model::JobRecord;
 use model::StartAnswer;
 ghost use mathlib.Core.Path.{_≡_};
 ghost use mathlib.Core.Bool.{cond};
-ghost use Rattle.model.specs.Jobs.{freshRecord, startOf, startRefusal, advanceOf, advanceWork, advanceRefusal, advanceCount};
-ghost use Rattle.exports.specs.Exported.{Finishes};
-ghost use Rattle.exports.specs.Memory.{recordOf, memoryOf, memoryAfter, startMemory, advanceMemory};
+ghost use Rattle.model.specs.Jobs.{freshRecord, startRefusal, advanceRefusal, advanceCount};
+ghost use Rattle.exports.specs.Exported.{Starts, Advances, Finishes};
+ghost use Rattle.exports.specs.Memory.{recordOf, memoryOf, memoryAfter};
 
-// The caller's record of a job: 0 in `idle` says that a job is running, any other number that none is.
+// The caller's record of a job: 0 in `idle` says that a job was started, any other number that none was.
 #[repr(C)]
 pub struct JobMemory {
     pub idle: u32,
@@ -52,7 +53,7 @@ fn memory_of(job: JobRecord) -> JobMemory
     }
 }
 
-// What a call leaves: where it was turned down the old memory, also its `idle` number, else the new record.
+// What a call leaves: where it was refused the old memory, also its `idle` number, else the new record.
 fn memory_after(refusal: u32, old: JobMemory, job: JobRecord) -> JobMemory
     ensures { λ r. ⌜ r ≡ memoryAfter refusal old job ⌝ }
 {
@@ -62,6 +63,7 @@ fn memory_after(refusal: u32, old: JobMemory, job: JobRecord) -> JobMemory
     memory_of(job)
 }
 
+// Entry point.
 // A record of no job.
 #[no_mangle]
 pub extern "C" fn pensummer_fresh() -> JobMemory
@@ -71,7 +73,7 @@ pub extern "C" fn pensummer_fresh() -> JobMemory
     memory_of(job)
 }
 
-// What a start leaves and answers: the memory after the call, and the item that turned it down, 0 for none.
+// What a start leaves and answers: the memory after the call, and the item that refused it, 0 for none.
 pub struct StartNumbers {
     pub job: JobMemory,
     pub refusal: u32,
@@ -93,8 +95,7 @@ fn start_numbers(
     found: &[u8],
     work: &[i32],
 ) -> StartNumbers
-    ensures { λ r. ⌜ (r .job ≡ startMemory job (now (table .entry)) (now (recorded .entry)) (now (found .entry)) (now (work .entry)))
-        × (r .refusal ≡ startRefusal (startOf (recordOf job) (now (table .entry)) (now (recorded .entry)) (now (found .entry)) (now (work .entry)) .answer)) ⌝ }
+    ensures { λ r. ⌜ Starts job (now (table .entry)) (now (recorded .entry)) (now (found .entry)) (now (work .entry)) (r .job) (r .refusal) ⌝ }
 {
     let held = record_of(job);
     let out = jobs::start_core(held, table, recorded, found, work);
@@ -105,7 +106,8 @@ fn start_numbers(
     StartNumbers { job: left, refusal }
 }
 
-// Starts the job of the lent record, also over an earlier job: the item that turned the call down, 0 for none.
+// Entry point.
+// Starts the job of the lent record, also over an earlier job: the item that refused the call, 0 for none.
 #[no_mangle]
 pub extern "C" fn pensummer_start(
     job: &mut JobMemory,
@@ -114,15 +116,14 @@ pub extern "C" fn pensummer_start(
     found: &[u8],
     work: &[i32],
 ) -> u32
-    ensures { λ r. ⌜ (now (job .exit) ≡ startMemory (now (job .entry)) (now (table .entry)) (now (recorded .entry)) (now (found .entry)) (now (work .entry)))
-        × (r ≡ startRefusal (startOf (recordOf (now (job .entry))) (now (table .entry)) (now (recorded .entry)) (now (found .entry)) (now (work .entry)) .answer)) ⌝ }
+    ensures { λ r. ⌜ Starts (now (job .entry)) (now (table .entry)) (now (recorded .entry)) (now (found .entry)) (now (work .entry)) (now (job .exit)) r ⌝ }
 {
     let out = start_numbers(*job, table, recorded, found, work);
     *job = out.job;
     out.refusal
 }
 
-// An advance's answer as two numbers: the item that turned the call down, 0 for none, and how many subproblems were solved.
+// An advance's answer as two numbers: the item that refused the call, 0 for none, and how many subproblems were solved.
 #[repr(C)]
 pub struct AdvanceResult {
     pub refusal: u32,
@@ -158,10 +159,7 @@ fn advance_numbers(
     budget: u32,
     work: &mut [i32],
 ) -> AdvanceNumbers
-    ensures { λ r. ⌜ (r .job ≡ advanceMemory job (now (table .entry)) (now (recorded .entry)) (now (found .entry)) budget (now (work .entry)))
-        × (r .result .refusal ≡ advanceRefusal (advanceOf (recordOf job) (now (table .entry)) (now (recorded .entry)) (now (found .entry)) budget (now (work .entry)) .answer))
-        × (r .result .count ≡ advanceCount (advanceOf (recordOf job) (now (table .entry)) (now (recorded .entry)) (now (found .entry)) budget (now (work .entry)) .answer))
-        × (now (work .exit) ≡ advanceWork (recordOf job) (now (table .entry)) (now (recorded .entry)) (now (found .entry)) budget (now (work .entry))) ⌝ }
+    ensures { λ r. ⌜ Advances job (now (table .entry)) (now (recorded .entry)) (now (found .entry)) budget (now (work .entry)) (r .job) (now (work .exit)) (r .result .refusal) (r .result .count) ⌝ }
 {
     let held = record_of(job);
     let out = jobs::advance_core(held, table, recorded, found, budget, work);
@@ -172,6 +170,7 @@ fn advance_numbers(
     AdvanceNumbers { job: left, result }
 }
 
+// Entry point.
 // Advances the job of the lent record: solves the smaller of the budget and what is left.
 #[no_mangle]
 pub extern "C" fn pensummer_advance(
@@ -182,10 +181,7 @@ pub extern "C" fn pensummer_advance(
     budget: u32,
     work: &mut [i32],
 ) -> AdvanceResult
-    ensures { λ r. ⌜ (now (job .exit) ≡ advanceMemory (now (job .entry)) (now (table .entry)) (now (recorded .entry)) (now (found .entry)) budget (now (work .entry)))
-        × (r .refusal ≡ advanceRefusal (advanceOf (recordOf (now (job .entry))) (now (table .entry)) (now (recorded .entry)) (now (found .entry)) budget (now (work .entry)) .answer))
-        × (r .count ≡ advanceCount (advanceOf (recordOf (now (job .entry))) (now (table .entry)) (now (recorded .entry)) (now (found .entry)) budget (now (work .entry)) .answer))
-        × (now (work .exit) ≡ advanceWork (recordOf (now (job .entry))) (now (table .entry)) (now (recorded .entry)) (now (found .entry)) budget (now (work .entry))) ⌝ }
+    ensures { λ r. ⌜ Advances (now (job .entry)) (now (table .entry)) (now (recorded .entry)) (now (found .entry)) budget (now (work .entry)) (now (job .exit)) (now (work .exit)) (r .refusal) (r .count) ⌝ }
 {
     let out = advance_numbers(*job, table, recorded, found, budget, work);
     *job = out.job;
@@ -207,6 +203,7 @@ fn finish_result(
     numbers(a)
 }
 
+// Entry point.
 // Finishes the job of the lent record, which is only read: a mapping in the first n bytes and its exact weight.
 #[no_mangle]
 pub extern "C" fn pensummer_finish(

@@ -5,9 +5,9 @@ pub mod job_calls;
 use model::MatchAnswer;
 ghost use mathlib.Core.Path.{_≡_};
 ghost use Rattle.model.specs.Match.{refusalOf, weightOf};
-ghost use Rattle.exports.specs.Exported.{Exported};
+ghost use Rattle.exports.specs.Exported.{Matches};
 
-// A match's answer as two numbers: the item that turned the call down, 0 for none, and the mapping's weight, 0 where there is none.
+// A match's answer as two numbers: the item that refused the call, 0 for none, and the mapping's weight, 0 where there is none.
 #[repr(C)]
 pub struct MatchResult {
     pub refusal: u32,
@@ -29,6 +29,7 @@ fn numbers(a: MatchAnswer) -> MatchResult
     }
 }
 
+// Entry point.
 // The match in one call.
 #[no_mangle]
 pub extern "C" fn pensummer_match(
@@ -38,7 +39,7 @@ pub extern "C" fn pensummer_match(
     work: &mut [i32],
     mapping: &mut [u8],
 ) -> MatchResult
-    ensures { λ r. ⌜ Exported (now (table .entry)) (now (recorded .entry)) (now (found .entry)) (now (work .entry)) (now (mapping .entry)) (now (work .exit)) (now (mapping .exit)) (r .refusal) (r .weight) ⌝ }
+    ensures { λ r. ⌜ Matches (now (table .entry)) (now (recorded .entry)) (now (found .entry)) (now (work .entry)) (now (mapping .entry)) (now (work .exit)) (now (mapping .exit)) (r .refusal) (r .weight) ⌝ }
 {
     let a = one_call::match_trees(table, recorded, found, work, mapping);
     numbers(a)

@@ -1,11 +1,11 @@
 -- Items 1 to 12 together: which part's item a call gets, and what it says that none applies. Assumes nothing.
-use mathlib.Core.Path.{_≡_, sym, ap, _∙_}
+use mathlib.Core.Path.{_≡_, sym, _∙_}
 use mathlib.Core.Logic.{_≢_, ⊎-elim}
 use mathlib.Core.List.{List, _++_}
-use Prim.Native.Nat.{ℕ, _≤_}
+use Prim.Native.Nat.{ℕ}
 use native.Mathlib.Omega.{arith}
 use Rattle.foundations.specs.Tests.{same?}
-use Rattle.model.specs.Refusals.{Item, firstOf}
+use Rattle.model.specs.Refusals.{Item}
 use Rattle.model.specs.Table.{vertexLabels, edgeLabels, tableItems, tableItem}
 use Rattle.model.specs.Tree.{treeItems, treeItem}
 use Rattle.model.specs.Calls.{inputItems, inputItem}

@@ -10,13 +10,14 @@ use lib.ListN.{length, getD, set, take, drop, replicate, length-set, drop-of-len
 use lib.Seq.{take-nil, take-all, drop-cons, take-suc-set, drop-set-lt}
 use lib.Dec.{eqb}
 use borrow.Author.Tests.{eq-eqb, ne-eqb}
-use Rattle.foundations.specs.Tests.{same?, less?, or-true, or-false, eqb-same}
+use Rattle.foundations.specs.Tests.{same?, or-true, or-false}
 use Rattle.foundations.specs.Lists.{below, below-ext, places}
 use Rattle.foundations.specs.Members.{Below}
+use Rattle.model.specs.Limits.{degreeLimit, noVertex}
 
 -- what is carried on from a place that held x: the greater of the two, and 255, nothing, where they are the same
 unfoldable pub carried : ℕ → ℕ → ℕ
-carried x c = cond (eqb x c) 255 (max x c)
+carried x c = cond (eqb x c) noVertex (max x c)
 
 -- c put into a row: at each place the lesser stays, and what is carried past the last place falls out
 unfoldable pub putIn : ℕ → List ℕ → List ℕ
@@ -30,7 +31,7 @@ insert c (x ∷ l) = cond (eqb x c) (x ∷ l) (min x c ∷ insert (max x c) l)
 
 -- ---- in eight places
 
-pub carried-same : (x c : ℕ) → x ≡ c → carried x c ≡ 255
+pub carried-same : (x c : ℕ) → x ≡ c → carried x c ≡ noVertex
 unfolding carried
 carried-same x c e = rw (eq-eqb x c e)
 
@@ -47,45 +48,45 @@ unfolding insert
 insert-other x c l e = rw (ne-eqb x c e)
 
 -- nothing carried changes nothing
-free : (k : ℕ) → putIn 255 (replicate k 255) ≡ replicate k 255
+free : (k : ℕ) → putIn noVertex (replicate k noVertex) ≡ replicate k noVertex
 unfolding putIn carried
 free zero = refl
 free (suc k) = rw (free k)
 
-no-places : (l : List ℕ) → places 0 255 l ≡ []
+no-places : (l : List ℕ) → places 0 noVertex l ≡ []
 unfolding places
 no-places l = let e : 0 - length l ≡ 0 = omega arith in rw e
 
-all-free : (k : ℕ) → places {A = ℕ} k 255 [] ≡ replicate k 255
+all-free : (k : ℕ) → places {A = ℕ} k noVertex [] ≡ replicate k noVertex
 unfolding places
 all-free k = let e : k - 0 ≡ k = omega arith in let t : take {A = ℕ} k [] ≡ [] = take-nil k in rw (t, e)
 
-places-cons : (k x : ℕ) (l : List ℕ) → places (suc k) 255 (x ∷ l) ≡ x ∷ places k 255 l
+places-cons : (k x : ℕ) (l : List ℕ) → places (suc k) noVertex (x ∷ l) ≡ x ∷ places k noVertex l
 unfolding places
-places-cons k x l = let e : suc k - length (x ∷ l) ≡ k - length l = omega arith in ap (λ q. x ∷ (take k l ++ replicate q 255)) e
+places-cons k x l = let e : suc k - length (x ∷ l) ≡ k - length l = omega arith in ap (λ q. x ∷ (take k l ++ replicate q noVertex)) e
 
-none-in : (k : ℕ) (l : List ℕ) → Below 255 l → putIn 255 (places k 255 l) ≡ places k 255 l
+none-in : (k : ℕ) (l : List ℕ) → Below noVertex l → putIn noVertex (places k noVertex l) ≡ places k noVertex l
 unfolding putIn
 none-in zero l b = rw (no-places l)
 none-in (suc k) [] b = rw (all-free (suc k)) (free (suc k))
 none-in (suc k) (x ∷ l) b =
-    let h : x < 255 = b .0 in
-    let m : min x 255 ≡ x = omega arith in
-    let g : max x 255 ≡ 255 = omega arith in
-    let c : carried x 255 ≡ 255 = carried-other x 255 (λ e. omega arith) ∙ g in
+    let h : x < noVertex = b .0 in
+    let m : min x noVertex ≡ x = omega arith in
+    let g : max x noVertex ≡ noVertex = omega arith in
+    let c : carried x noVertex ≡ noVertex = carried-other x noVertex (λ e. omega arith) ∙ g in
     rw (places-cons k x l, m, c, none-in k l (b .1))
 
-pub in-places : (k c : ℕ) (l : List ℕ) → c < 255 → Below 255 l → putIn c (places k 255 l) ≡ places k 255 (insert c l)
+pub in-places : (k c : ℕ) (l : List ℕ) → c < noVertex → Below noVertex l → putIn c (places k noVertex l) ≡ places k noVertex (insert c l)
 unfolding putIn insert
 in-places zero c l h b = rw (no-places l, no-places (insert c l))
 in-places (suc k) c [] h b =
-    let m : min 255 c ≡ c = omega arith in
-    let g : max 255 c ≡ 255 = omega arith in
-    let d : carried 255 c ≡ 255 = carried-other 255 c (λ e. omega arith) ∙ g in
+    let m : min noVertex c ≡ c = omega arith in
+    let g : max noVertex c ≡ noVertex = omega arith in
+    let d : carried noVertex c ≡ noVertex = carried-other noVertex c (λ e. omega arith) ∙ g in
     rw (all-free (suc k), places-cons k c [], all-free k, m, d, free k)
 in-places (suc k) c (x ∷ l) h b = ⊎-elim
     (λ e. let m : min x c ≡ x = omega arith in rw (places-cons k x l, carried-same x c e, insert-same x c l e, m, places-cons k x l, none-in k l (b .1)))
-    (λ e. rw (places-cons k x l, carried-other x c e, insert-other x c l e, places-cons k (min x c) (insert (max x c) l)) (ap (λ r. min x c ∷ r) (in-places k (max x c) l (let a : x < 255 = b .0 in omega arith) (b .1))))
+    (λ e. rw (places-cons k x l, carried-other x c e, insert-other x c l e, places-cons k (min x c) (insert (max x c) l)) (ap (λ r. min x c ∷ r) (in-places k (max x c) l (let a : x < noVertex = b .0 in omega arith) (b .1))))
     (same? x c)
 
 -- ---- a number more that passes the test
@@ -160,19 +161,19 @@ insert-below p c (suc n) h = ⊎-elim (λ e. last e (p n)) (λ e. earlier e (p n
         pick false = rw (append-nil, append-nil)
 
 -- the row of the numbers below n that pass a test, with c too
-pub put-below : (p : ℕ → Bool) (c n : ℕ) → c < n → n ≤ 255 → putIn c (places 8 255 (below p n)) ≡ places 8 255 (below (λ w. p w || eqb c w) n)
-put-below p c n h few = in-places 8 c (below p n) (omega arith) (below-up n 255 (below p n) few (below-low p n)) ∙ ap (places 8 255) (insert-below p c n h)
+pub put-below : (p : ℕ → Bool) (c n : ℕ) → c < n → n ≤ noVertex → putIn c (places degreeLimit noVertex (below p n)) ≡ places degreeLimit noVertex (below (λ w. p w || eqb c w) n)
+put-below p c n h few = in-places degreeLimit c (below p n) (omega arith) (below-up n noVertex (below p n) few (below-low p n)) ∙ ap (places degreeLimit noVertex) (insert-below p c n h)
 
 -- ---- the loop: i places are done, c is carried to the others
 
 pub record Putting (i c : ℕ) (r goal : List ℕ) : Type 0 where
-  pub size : length r ≡ 8
+  pub size : length r ≡ degreeLimit
   pub so-far : take i r ++ putIn c (drop i r) ≡ goal
 
-pub putting-none : (c : ℕ) (r : List ℕ) → length r ≡ 8 → Putting 0 c r (putIn c r)
+pub putting-none : (c : ℕ) (r : List ℕ) → length r ≡ degreeLimit → Putting 0 c r (putIn c r)
 putting-none c r h = record { size = h; so-far = refl }
 
-pub putting-more : (i c low high : ℕ) (r goal : List ℕ) → i < 8 → low ≡ min (getD r i 0) c → high ≡ carried (getD r i 0) c → Putting i c r goal → Putting (i + 1) high (set r i low) goal
+pub putting-more : (i c low high : ℕ) (r goal : List ℕ) → i < degreeLimit → low ≡ min (getD r i 0) c → high ≡ carried (getD r i 0) c → Putting i c r goal → Putting (i + 1) high (set r i low) goal
 unfolding putIn
 putting-more i c low high r goal l el eh h =
     let b : i < length r = omega (arith, h .size) in
@@ -183,7 +184,7 @@ putting-more i c low high r goal l el eh h =
           (sym (ap (λ q. take i r ++ putIn c q) (drop-cons r i 0 b)) ∙ h .so-far);
     }
 
-pub putting-all : (i c : ℕ) (r goal : List ℕ) → i ≡ 8 → Putting i c r goal → r ≡ goal
+pub putting-all : (i c : ℕ) (r goal : List ℕ) → i ≡ degreeLimit → Putting i c r goal → r ≡ goal
 unfolding putIn
 putting-all i c r goal e h =
     let d : drop i r ≡ [] = drop-of-length-le r {i = i} (omega (arith, h .size)) in

@@ -1,18 +1,19 @@
 -- The steps of the loops that find neighbours and the labels of the edges to them. Assumes nothing.
-use mathlib.Core.Path.{_≡_, refl, sym, ap, _∙_, subst}
+use mathlib.Core.Path.{_≡_, refl, sym, ap, _∙_}
 use mathlib.Core.Logic.{_⊎_, inl, inr, ⊎-elim, _≢_}
 use mathlib.Core.List.{List, []}
 use mathlib.Core.Bool.{Bool, true, false, _&&_, _||_, cond, true≢false}
 use Prim.Native.Nat.{ℕ, zero, suc, _+_, _-_, _≤_, _<_}
 use native.Mathlib.Omega.{arith}
 use native.Mathlib.Numerals.{add-one}
-use lib.ListN.{length, getD, set, replicate, take, length-set, length-append, length-take, List·getD-append, getD-replicate}
-use lib.Seq.{getD-set-same, getD-set-other, ext-getD, getD-take, getD-append-add}
+use lib.ListN.{length, getD, set, replicate, take, length-take, List·getD-append, getD-replicate}
+use lib.Seq.{getD-take, getD-append-add}
 use lib.Dec.{eqb}
-use borrow.Author.Tests.{eq-eqb, ne-eqb, eqb-true}
-use Rattle.foundations.specs.Tests.{same?, less?, or-assoc, or-false, eqb-same, is-false}
-use Rattle.foundations.specs.Lists.{below, below-ext, places, tab, tab-ext, getD-tab, length-tab}
+use borrow.Author.Tests.{eq-eqb, ne-eqb}
+use Rattle.foundations.specs.Tests.{less?, or-assoc, or-false, eqb-same, is-false}
+use Rattle.foundations.specs.Lists.{below, below-ext, places, tab, tab-ext, getD-tab}
 use Rattle.foundations.specs.Members.{getD-mem, mem-below}
+use Rattle.model.specs.Limits.{vertexLimit, degreeLimit, noVertex}
 use Rattle.model.specs.Tree.{count, endA, endB, edgeLabelAt}
 use Rattle.model.specs.Graph.{joins, joinedBy, neighbours, eight, edgeBefore, edgeLabel, neighbourTable, labelOfPlace, edgeLabelTable}
 use Rattle.trees.specs.Accepted.{Ends}
@@ -23,22 +24,22 @@ use Rattle.formats.specs.TreeItems.{set-tab}
 -- ---- neighbours: each vertex's row by a test of pairs
 
 abbrev pub rows : (ℕ → ℕ → Bool) → ℕ → List (List ℕ)
-rows p n = tab (λ v. eight (below (p v) n)) 64
+rows p n = tab (λ v. eight (below (p v) n)) vertexLimit
 
 -- b put into the row of a
-rows-more : (p : ℕ → ℕ → Bool) (n a b : ℕ) (t : List (List ℕ)) → a < 64 → b < n → n ≤ 64 → t ≡ rows p n → set t a (putIn b (getD t a [])) ≡ rows (λ v w. p v w || (eqb a v && eqb b w)) n
+rows-more : (p : ℕ → ℕ → Bool) (n a b : ℕ) (t : List (List ℕ)) → a < vertexLimit → b < n → n ≤ vertexLimit → t ≡ rows p n → set t a (putIn b (getD t a [])) ≡ rows (λ v w. p v w || (eqb a v && eqb b w)) n
 rows-more p n a b t la lb few e =
-    rw e (set-tab (λ v. eight (below (p v) n)) (λ v. eight (below (λ w. p v w || (eqb a v && eqb b w)) n)) 64 a (putIn b (getD (rows p n) a [])) [] la
-    (ap (putIn b) (getD-tab (λ v. eight (below (p v) n)) 64 a [] la) ∙ put-below (p a) b n lb (omega arith) ∙ ap eight (below-ext (λ w. p a w || eqb b w) (λ w. p a w || (eqb a a && eqb b w)) n (λ w l. rw (eqb-same a))))
+    rw e (set-tab (λ v. eight (below (p v) n)) (λ v. eight (below (λ w. p v w || (eqb a v && eqb b w)) n)) vertexLimit a (putIn b (getD (rows p n) a [])) [] la
+    (ap (putIn b) (getD-tab (λ v. eight (below (p v) n)) vertexLimit a [] la) ∙ put-below (p a) b n lb (omega arith) ∙ ap eight (below-ext (λ w. p a w || eqb b w) (λ w. p a w || (eqb a a && eqb b w)) n (λ w l. rw (eqb-same a))))
     (λ v l ne. ap eight (below-ext (p v) (λ w. p v w || (eqb a v && eqb b w)) n (λ w lw. rw (ne-eqb a v (λ q. ne (sym q))) (sym (or-false (p v w)))))))
 
-pub joined-rows : (s : List ℕ) (n j a b : ℕ) (t : List (List ℕ)) (x y : List ℕ) → a < n → b < n → n ≤ 64 → a ≡ endA s n j → b ≡ endB s n j → t ≡ rows (λ v w. joinedBy s n v w j) n
+pub joined-rows : (s : List ℕ) (n j a b : ℕ) (t : List (List ℕ)) (x y : List ℕ) → a < n → b < n → n ≤ vertexLimit → a ≡ endA s n j → b ≡ endB s n j → t ≡ rows (λ v w. joinedBy s n v w j) n
     → x ≡ putIn b (getD t a []) → y ≡ putIn a (getD (set t a x) b []) → set (set t a x) b y ≡ rows (λ v w. joinedBy s n v w (j + 1)) n
 unfolding joinedBy joins
 joined-rows s n j a b t x y la lb few ea eb h hx hy =
     let one : set t a x ≡ rows (λ v w. joinedBy s n v w j || (eqb a v && eqb b w)) n = rw hx (rows-more (λ v w. joinedBy s n v w j) n a b t (omega arith) lb few h) in
     rw hy (rows-more (λ v w. joinedBy s n v w j || (eqb a v && eqb b w)) n b a (set t a x) (omega arith) la few one)
-    ∙ tab-ext (λ v. eight (below (λ w. (joinedBy s n v w j || (eqb a v && eqb b w)) || (eqb b v && eqb a w)) n)) (λ v. eight (below (λ w. joinedBy s n v w (j + 1)) n)) 64
+    ∙ tab-ext (λ v. eight (below (λ w. (joinedBy s n v w j || (eqb a v && eqb b w)) || (eqb b v && eqb a w)) n)) (λ v. eight (below (λ w. joinedBy s n v w (j + 1)) n)) vertexLimit
     (λ v l. ap eight (below-ext (λ w. (joinedBy s n v w j || (eqb a v && eqb b w)) || (eqb b v && eqb a w)) (λ w. joinedBy s n v w (j + 1)) n
     (λ w lw. or-assoc (joinedBy s n v w j) (eqb a v && eqb b w) (eqb b v && eqb a w) ∙ rw (add-one, ea, eb))))
 
@@ -48,7 +49,7 @@ below-none zero = refl
 below-none (suc k) = rw (below-none k)
 
 -- no edge yet
-pub no-rows : (s : List ℕ) (n : ℕ) → replicate 64 (replicate 8 255) ≡ rows (λ v w. joinedBy s n v w 0) n
+pub no-rows : (s : List ℕ) (n : ℕ) → replicate vertexLimit (replicate degreeLimit noVertex) ≡ rows (λ v w. joinedBy s n v w 0) n
 unfolding joinedBy tab places
 no-rows s n = rw (below-none n)
 
@@ -59,37 +60,37 @@ rows-end s n j t en ej h = h ∙ ap (λ (k : ℕ). rows (λ v w. joinedBy s n v 
 -- ---- labels in the neighbours' places
 
 abbrev pub labelRows : List (List ℕ) → (ℕ → ℕ → ℕ) → List (List ℕ)
-labelRows N f = tab (λ v. tab (λ i. f v (getD (getD N v []) i 0)) 8) 64
+labelRows N f = tab (λ v. tab (λ i. f v (getD (getD N v []) i 0)) degreeLimit) vertexLimit
 
 -- the label of the last of the first k edges that joins v and w, 255 for none
 unfoldable pub labelSoFar : List ℕ → ℕ → ℕ → ℕ → ℕ → ℕ
-labelSoFar s n v w zero = 255
+labelSoFar s n v w zero = noVertex
 labelSoFar s n v w (suc k) = cond (joins (endA s n k) (endB s n k) v w) (edgeLabelAt s n k) (labelSoFar s n v w k)
 
 -- l put into the place of b in the row of a
-labels-more : (N t : List (List ℕ)) (f : ℕ → ℕ → ℕ) (a b l : ℕ) (x : List ℕ) → a < 64 → t ≡ labelRows N f → x ≡ tab (λ i. cond (eqb b (getD (getD N a []) i 0)) l (getD (getD t a []) i 0)) 8
+labels-more : (N t : List (List ℕ)) (f : ℕ → ℕ → ℕ) (a b l : ℕ) (x : List ℕ) → a < vertexLimit → t ≡ labelRows N f → x ≡ tab (λ i. cond (eqb b (getD (getD N a []) i 0)) l (getD (getD t a []) i 0)) degreeLimit
     → set t a x ≡ labelRows N (λ v w. cond (eqb a v && eqb b w) l (f v w))
 labels-more N t f a b l x la e h =
-    rw e (set-tab (λ v. tab (λ i. f v (getD (getD N v []) i 0)) 8) (λ v. tab (λ i. cond (eqb a v && eqb b (getD (getD N v []) i 0)) l (f v (getD (getD N v []) i 0))) 8) 64 a x [] la
-    (h ∙ tab-ext (λ i. cond (eqb b (getD (getD N a []) i 0)) l (getD (getD t a []) i 0)) (λ i. cond (eqb a a && eqb b (getD (getD N a []) i 0)) l (f a (getD (getD N a []) i 0))) 8 (λ i li. rw (eqb-same a) (ap (λ z. cond (eqb b (getD (getD N a []) i 0)) l z) (at i li))))
-    (λ v lv ne. tab-ext (λ i. f v (getD (getD N v []) i 0)) (λ i. cond (eqb a v && eqb b (getD (getD N v []) i 0)) l (f v (getD (getD N v []) i 0))) 8 (λ i li. rw (ne-eqb a v (λ q. ne (sym q))))))
+    rw e (set-tab (λ v. tab (λ i. f v (getD (getD N v []) i 0)) degreeLimit) (λ v. tab (λ i. cond (eqb a v && eqb b (getD (getD N v []) i 0)) l (f v (getD (getD N v []) i 0))) degreeLimit) vertexLimit a x [] la
+    (h ∙ tab-ext (λ i. cond (eqb b (getD (getD N a []) i 0)) l (getD (getD t a []) i 0)) (λ i. cond (eqb a a && eqb b (getD (getD N a []) i 0)) l (f a (getD (getD N a []) i 0))) degreeLimit (λ i li. rw (eqb-same a) (ap (λ z. cond (eqb b (getD (getD N a []) i 0)) l z) (at i li))))
+    (λ v lv ne. tab-ext (λ i. f v (getD (getD N v []) i 0)) (λ i. cond (eqb a v && eqb b (getD (getD N v []) i 0)) l (f v (getD (getD N v []) i 0))) degreeLimit (λ i li. rw (ne-eqb a v (λ q. ne (sym q))))))
   where
-    at : (i : ℕ) → i < 8 → getD (getD t a []) i 0 ≡ f a (getD (getD N a []) i 0)
-    at i li = ap (λ (z : List (List ℕ)). getD (getD z a []) i 0) e ∙ ap (λ (z : List ℕ). getD z i 0) (getD-tab (λ v. tab (λ i. f v (getD (getD N v []) i 0)) 8) 64 a [] la) ∙ getD-tab (λ i. f a (getD (getD N a []) i 0)) 8 i 0 li
+    at : (i : ℕ) → i < degreeLimit → getD (getD t a []) i 0 ≡ f a (getD (getD N a []) i 0)
+    at i li = ap (λ (z : List (List ℕ)). getD (getD z a []) i 0) e ∙ ap (λ (z : List ℕ). getD z i 0) (getD-tab (λ v. tab (λ i. f v (getD (getD N v []) i 0)) degreeLimit) vertexLimit a [] la) ∙ getD-tab (λ i. f a (getD (getD N a []) i 0)) degreeLimit i 0 li
 
 twice : (t u : Bool) (l x : ℕ) → cond u l (cond t l x) ≡ cond (t || u) l x
 twice true true l x = refl
 twice true false l x = refl
 twice false u l x = refl
 
-pub labelled-rows : (s : List ℕ) (n j a b l : ℕ) (N t : List (List ℕ)) (x y : List ℕ) → a < 64 → b < 64 → a ≡ endA s n j → b ≡ endB s n j → l ≡ edgeLabelAt s n j → t ≡ labelRows N (λ v w. labelSoFar s n v w j)
-    → x ≡ tab (λ i. cond (eqb b (getD (getD N a []) i 0)) l (getD (getD t a []) i 0)) 8 → y ≡ tab (λ i. cond (eqb a (getD (getD N b []) i 0)) l (getD (getD (set t a x) b []) i 0)) 8
+pub labelled-rows : (s : List ℕ) (n j a b l : ℕ) (N t : List (List ℕ)) (x y : List ℕ) → a < vertexLimit → b < vertexLimit → a ≡ endA s n j → b ≡ endB s n j → l ≡ edgeLabelAt s n j → t ≡ labelRows N (λ v w. labelSoFar s n v w j)
+    → x ≡ tab (λ i. cond (eqb b (getD (getD N a []) i 0)) l (getD (getD t a []) i 0)) degreeLimit → y ≡ tab (λ i. cond (eqb a (getD (getD N b []) i 0)) l (getD (getD (set t a x) b []) i 0)) degreeLimit
     → set (set t a x) b y ≡ labelRows N (λ v w. labelSoFar s n v w (j + 1))
 unfolding labelSoFar joins
 labelled-rows s n j a b l N t x y la lb ea eb el h hx hy =
     labels-more N (set t a x) (λ v w. cond (eqb a v && eqb b w) l (labelSoFar s n v w j)) b a l y lb (labels-more N t (λ v w. labelSoFar s n v w j) a b l x la h hx) hy
-    ∙ tab-ext (λ v. tab (λ i. both v (getD (getD N v []) i 0)) 8) (λ v. tab (λ i. labelSoFar s n v (getD (getD N v []) i 0) (j + 1)) 8) 64
-    (λ v lv. tab-ext (λ i. both v (getD (getD N v []) i 0)) (λ i. labelSoFar s n v (getD (getD N v []) i 0) (j + 1)) 8 (λ i li. step v (getD (getD N v []) i 0)))
+    ∙ tab-ext (λ v. tab (λ i. both v (getD (getD N v []) i 0)) degreeLimit) (λ v. tab (λ i. labelSoFar s n v (getD (getD N v []) i 0) (j + 1)) degreeLimit) vertexLimit
+    (λ v lv. tab-ext (λ i. both v (getD (getD N v []) i 0)) (λ i. labelSoFar s n v (getD (getD N v []) i 0) (j + 1)) degreeLimit (λ i li. step v (getD (getD N v []) i 0)))
   where
     both : ℕ → ℕ → ℕ
     both v w = cond (eqb b v && eqb a w) l (cond (eqb a v && eqb b w) l (labelSoFar s n v w j))
@@ -97,7 +98,7 @@ labelled-rows s n j a b l N t x y la lb ea eb el h hx hy =
     step : (v w : ℕ) → both v w ≡ labelSoFar s n v w (j + 1)
     step v w = twice (eqb a v && eqb b w) (eqb b v && eqb a w) l (labelSoFar s n v w j) ∙ rw (add-one, ea, eb, el)
 
-pub no-labels : (s : List ℕ) (n : ℕ) (N : List (List ℕ)) → replicate 64 (replicate 8 255) ≡ labelRows N (λ v w. labelSoFar s n v w 0)
+pub no-labels : (s : List ℕ) (n : ℕ) (N : List (List ℕ)) → replicate vertexLimit (replicate degreeLimit noVertex) ≡ labelRows N (λ v w. labelSoFar s n v w 0)
 unfolding labelSoFar tab
 no-labels s n N = refl
 
@@ -112,41 +113,41 @@ label-joined s n v w (suc k) h = step (joins (endA s n k) (endB s n k) v w) refl
     step true e r = refl
     step false e r = r (sym (or-false (joinedBy s n v w k)) ∙ (rw e at h))
 
-label-apart : (s : List ℕ) (n v w k : ℕ) → joinedBy s n v w k ≡ false → labelSoFar s n v w k ≡ 255
+label-apart : (s : List ℕ) (n v w k : ℕ) → joinedBy s n v w k ≡ false → labelSoFar s n v w k ≡ noVertex
 unfolding joinedBy labelSoFar
 label-apart s n v w zero h = refl
 label-apart s n v w (suc k) h = step (joinedBy s n v w k) (joins (endA s n k) (endB s n k) v w) (label-apart s n v w k) refl h
   where
-    step : (t u : Bool) → (joinedBy s n v w k ≡ false → labelSoFar s n v w k ≡ 255) → joinedBy s n v w k ≡ t → (t || u) ≡ false → cond u (edgeLabelAt s n k) (labelSoFar s n v w k) ≡ 255
+    step : (t u : Bool) → (joinedBy s n v w k ≡ false → labelSoFar s n v w k ≡ noVertex) → joinedBy s n v w k ≡ t → (t || u) ≡ false → cond u (edgeLabelAt s n k) (labelSoFar s n v w k) ≡ noVertex
     step true u r e q = absurd (true≢false q)
     step false true r e q = absurd (true≢false q)
     step false false r e q = r e
 
 -- what stands in a place passes the test, or is 255
-place-says : (p : ℕ → Bool) (n i : ℕ) → i < 8 → (getD (eight (below p n)) i 0 ≡ 255) ⊎ (p (getD (eight (below p n)) i 0) ≡ true)
+place-says : (p : ℕ → Bool) (n i : ℕ) → i < degreeLimit → (getD (eight (below p n)) i 0 ≡ noVertex) ⊎ (p (getD (eight (below p n)) i 0) ≡ true)
 unfolding places
 place-says p n i h = ⊎-elim
     (λ l.
-    let long : length (take 8 (below p n)) ≡ _ = length-take 8 (below p n) in
-    let e : getD (eight (below p n)) i 0 ≡ getD (below p n) i 0 = List·getD-append (take 8 (below p n)) (replicate (8 - length (below p n)) 255) 0 i (omega arith) ∙ getD-take 8 (below p n) i 0 h in
+    let long : length (take degreeLimit (below p n)) ≡ _ = length-take degreeLimit (below p n) in
+    let e : getD (eight (below p n)) i 0 ≡ getD (below p n) i 0 = List·getD-append (take degreeLimit (below p n)) (replicate (degreeLimit - length (below p n)) noVertex) 0 i (omega arith) ∙ getD-take degreeLimit (below p n) i 0 h in
     inr (ap p e ∙ mem-below p n (getD (below p n) i 0) (getD-mem (below p n) i l) .1))
     (λ l.
-    let long : length (take 8 (below p n)) ≡ length (below p n) = length-take 8 (below p n) ∙ omega arith in
-    let e : length (take 8 (below p n)) + (i - length (below p n)) ≡ i = omega arith in
+    let long : length (take degreeLimit (below p n)) ≡ length (below p n) = length-take degreeLimit (below p n) ∙ omega arith in
+    let e : length (take degreeLimit (below p n)) + (i - length (below p n)) ≡ i = omega arith in
     inl (ap (λ (k : ℕ). getD (eight (below p n)) k 0) (sym e)
-    ∙ getD-append-add (take 8 (below p n)) (replicate (8 - length (below p n)) 255) (i - length (below p n)) 0
-    ∙ getD-replicate (8 - length (below p n)) (i - length (below p n)) 255 0 (omega arith)))
+    ∙ getD-append-add (take degreeLimit (below p n)) (replicate (degreeLimit - length (below p n)) noVertex) (i - length (below p n)) 0
+    ∙ getD-replicate (degreeLimit - length (below p n)) (i - length (below p n)) noVertex 0 (omega arith)))
     (less? i (length (below p n)))
 
 pub labels-end : (s : List ℕ) (n j : ℕ) (N t : List (List ℕ)) → Ends s (count s) → N ≡ neighbourTable s → n ≡ count s → j ≡ n - 1 → t ≡ labelRows N (λ v w. labelSoFar s n v w j) → t ≡ edgeLabelTable s
 unfolding edgeLabelTable neighbourTable neighbours
 labels-end s n j N t ends eN en ej h = h ∙ ap (λ (k : ℕ). labelRows N (λ v w. labelSoFar s n v w k)) ej ∙ ap (λ (k : ℕ). labelRows N (λ v w. labelSoFar s k v w (k - 1))) en
-    ∙ tab-ext (λ v. tab (λ i. labelSoFar s (count s) v (getD (getD N v []) i 0) (count s - 1)) 8) (λ v. tab (λ i. labelOfPlace s v (getD (eight (neighbours s v)) i 0)) 8) 64
-    (λ v lv. tab-ext (λ i. labelSoFar s (count s) v (getD (getD N v []) i 0) (count s - 1)) (λ i. labelOfPlace s v (getD (eight (neighbours s v)) i 0)) 8 (λ i li. ap (λ (z : List ℕ). labelSoFar s (count s) v (getD z i 0) (count s - 1)) (row v lv) ∙ at v (getD (eight (neighbours s v)) i 0) (place-says (λ w. joinedBy s (count s) v w (count s - 1)) (count s) i li)))
+    ∙ tab-ext (λ v. tab (λ i. labelSoFar s (count s) v (getD (getD N v []) i 0) (count s - 1)) degreeLimit) (λ v. tab (λ i. labelOfPlace s v (getD (eight (neighbours s v)) i 0)) degreeLimit) vertexLimit
+    (λ v lv. tab-ext (λ i. labelSoFar s (count s) v (getD (getD N v []) i 0) (count s - 1)) (λ i. labelOfPlace s v (getD (eight (neighbours s v)) i 0)) degreeLimit (λ i li. ap (λ (z : List ℕ). labelSoFar s (count s) v (getD z i 0) (count s - 1)) (row v lv) ∙ at v (getD (eight (neighbours s v)) i 0) (place-says (λ w. joinedBy s (count s) v w (count s - 1)) (count s) i li)))
   where
-    row : (v : ℕ) → v < 64 → getD N v [] ≡ eight (neighbours s v)
-    row v lv = ap (λ (z : List (List ℕ)). getD z v []) eN ∙ getD-tab (λ x. eight (neighbours s x)) 64 v [] lv
+    row : (v : ℕ) → v < vertexLimit → getD N v [] ≡ eight (neighbours s v)
+    row v lv = ap (λ (z : List (List ℕ)). getD z v []) eN ∙ getD-tab (λ x. eight (neighbours s x)) vertexLimit v [] lv
 
-    at : (v w : ℕ) → (w ≡ 255) ⊎ (joinedBy s (count s) v w (count s - 1) ≡ true) → labelSoFar s (count s) v w (count s - 1) ≡ labelOfPlace s v w
-    at v w (inl e) = unfold labelOfPlace in rw (eq-eqb w 255 e) (label-apart s (count s) v w (count s - 1) (is-false (joinedBy s (count s) v w (count s - 1)) (λ q. let a = adjacent-low s ends v w (joined-says s (count s) v w (count s - 1) q) in omega (arith, a .1, ends .few))))
-    at v w (inr q) = let a = adjacent-low s ends v w (joined-says s (count s) v w (count s - 1) q) in unfold labelOfPlace edgeLabel in rw (ne-eqb w 255 (λ e. omega (arith, a .1, ends .few))) (label-joined s (count s) v w (count s - 1) q)
+    at : (v w : ℕ) → (w ≡ noVertex) ⊎ (joinedBy s (count s) v w (count s - 1) ≡ true) → labelSoFar s (count s) v w (count s - 1) ≡ labelOfPlace s v w
+    at v w (inl e) = unfold labelOfPlace in rw (eq-eqb w noVertex e) (label-apart s (count s) v w (count s - 1) (is-false (joinedBy s (count s) v w (count s - 1)) (λ q. let a = adjacent-low s ends v w (joined-says s (count s) v w (count s - 1) q) in omega (arith, a .1, ends .few))))
+    at v w (inr q) = let a = adjacent-low s ends v w (joined-says s (count s) v w (count s - 1) q) in unfold labelOfPlace edgeLabel in rw (ne-eqb w noVertex (λ e. omega (arith, a .1, ends .few))) (label-joined s (count s) v w (count s - 1) q)

@@ -13,6 +13,7 @@ use borrow.Author.Tests.{eq-eqb, ne-eqb}
 use Rattle.foundations.specs.Tests.{same, same?, eqb-same, one-at-most}
 use Rattle.foundations.specs.Lists.{every, every-step, tab, length-tab, getD-tab, tab-ext}
 use Rattle.model.specs.Edges.{component}
+use Rattle.model.specs.Limits.{vertexLimit}
 use Rattle.model.specs.Refusals.{Item, item, firstOf}
 use Rattle.model.specs.Tree.{count, endA, endB, sized, marked, labelsKnown, endsLow, closes, acyclic, degree, fewEdges, treeItem}
 
@@ -56,17 +57,17 @@ found-shift s K L = shift (sized s && marked s (count s)) (labelsKnown s (count 
 
 -- ---- one turn of the test for cycles, of the merging, and of a degree
 
-pub closes-more : (s : List ℕ) (n j : ℕ) (ok : Bool) (l : List ℕ) (a b : ℕ) → ok ≡ every (λ i. not (closes s n i)) j → l ≡ tab (component (endA s n) (endB s n) j) 64 → a ≡ endA s n j → b ≡ endB s n j → a < 64 → b < 64
+pub closes-more : (s : List ℕ) (n j : ℕ) (ok : Bool) (l : List ℕ) (a b : ℕ) → ok ≡ every (λ i. not (closes s n i)) j → l ≡ tab (component (endA s n) (endB s n) j) vertexLimit → a ≡ endA s n j → b ≡ endB s n j → a < vertexLimit → b < vertexLimit
     → (ok && not (eqb (getD l a 0) (getD l b 0))) ≡ every (λ i. not (closes s n i)) (j + 1)
 unfolding closes
 closes-more s n j ok l a b h e ha hb la lb =
-    every-step (λ i. not (closes s n i)) j ok (not (eqb (getD l a 0) (getD l b 0))) h (rw (e, getD-tab (component (endA s n) (endB s n) j) 64 a 0 la, getD-tab (component (endA s n) (endB s n) j) 64 b 0 lb, ha, hb))
+    every-step (λ i. not (closes s n i)) j ok (not (eqb (getD l a 0) (getD l b 0))) h (rw (e, getD-tab (component (endA s n) (endB s n) j) vertexLimit a 0 la, getD-tab (component (endA s n) (endB s n) j) vertexLimit b 0 lb, ha, hb))
 
-pub component-more : (s : List ℕ) (n j : ℕ) (l r : List ℕ) (x y : ℕ) → l ≡ tab (component (endA s n) (endB s n) j) 64 → x ≡ component (endA s n) (endB s n) j (endA s n j) → y ≡ component (endA s n) (endB s n) j (endB s n j)
-    → r ≡ tab (λ z. cond (eqb (getD l z 0) y) x (getD l z 0)) 64 → r ≡ tab (component (endA s n) (endB s n) (j + 1)) 64
+pub component-more : (s : List ℕ) (n j : ℕ) (l r : List ℕ) (x y : ℕ) → l ≡ tab (component (endA s n) (endB s n) j) vertexLimit → x ≡ component (endA s n) (endB s n) j (endA s n j) → y ≡ component (endA s n) (endB s n) j (endB s n j)
+    → r ≡ tab (λ z. cond (eqb (getD l z 0) y) x (getD l z 0)) vertexLimit → r ≡ tab (component (endA s n) (endB s n) (j + 1)) vertexLimit
 unfolding component
 component-more s n j l r x y hl hx hy hr =
-    hr ∙ tab-ext (λ z. cond (eqb (getD l z 0) y) x (getD l z 0)) (component (endA s n) (endB s n) (j + 1)) 64 (λ z h. let g : getD l z 0 ≡ component (endA s n) (endB s n) j z = rw hl (getD-tab (component (endA s n) (endB s n) j) 64 z 0 h) in rw (add-one, component, g, hx, hy))
+    hr ∙ tab-ext (λ z. cond (eqb (getD l z 0) y) x (getD l z 0)) (component (endA s n) (endB s n) (j + 1)) vertexLimit (λ z h. let g : getD l z 0 ≡ component (endA s n) (endB s n) j z = rw hl (getD-tab (component (endA s n) (endB s n) j) vertexLimit z 0 h) in rw (add-one, component, g, hx, hy))
 
 -- a table with another value stored at a
 pub set-tab : {A : Type 0} (f g : ℕ → A) (k a : ℕ) (y d : A) → a < k → y ≡ g a → ((v : ℕ) → v < k → v ≢ a → f v ≡ g v) → set (tab f k) a y ≡ tab g k
@@ -95,16 +96,16 @@ end-once a b v = ⊎-elim
     (same a v)
 
 -- another number at a
-add-at : (f : ℕ → ℕ) (d : List ℕ) (a x y : ℕ) → a < 64 → d ≡ tab f 64 → y ≡ getD d a 0 + x → set d a y ≡ tab (λ v. f v + cond (eqb a v) x 0) 64
+add-at : (f : ℕ → ℕ) (d : List ℕ) (a x y : ℕ) → a < vertexLimit → d ≡ tab f vertexLimit → y ≡ getD d a 0 + x → set d a y ≡ tab (λ v. f v + cond (eqb a v) x 0) vertexLimit
 add-at f d a x y l e h =
-    rw e (set-tab f (λ v. f v + cond (eqb a v) x 0) 64 a y 0 l (h ∙ rw (e, getD-tab f 64 a 0 l, eqb-same a)) (λ v lv ne. rw (ne-eqb a v (λ q. ne (sym q))) (omega arith)))
+    rw e (set-tab f (λ v. f v + cond (eqb a v) x 0) vertexLimit a y 0 l (h ∙ rw (e, getD-tab f vertexLimit a 0 l, eqb-same a)) (λ v lv ne. rw (ne-eqb a v (λ q. ne (sym q))) (omega arith)))
 
-pub degree-more : (s : List ℕ) (n j a b m x y : ℕ) (d : List ℕ) → a < 64 → b < 64 → a ≡ endA s n j → b ≡ endB s n j → m ≡ cond (eqb a b) 0 1 → d ≡ tab (λ v. degree s n v j) 64
-    → x ≡ getD d a 0 + 1 → y ≡ getD (set d a x) b 0 + m → set (set d a x) b y ≡ tab (λ v. degree s n v (j + 1)) 64
+pub degree-more : (s : List ℕ) (n j a b m x y : ℕ) (d : List ℕ) → a < vertexLimit → b < vertexLimit → a ≡ endA s n j → b ≡ endB s n j → m ≡ cond (eqb a b) 0 1 → d ≡ tab (λ v. degree s n v j) vertexLimit
+    → x ≡ getD d a 0 + 1 → y ≡ getD (set d a x) b 0 + m → set (set d a x) b y ≡ tab (λ v. degree s n v (j + 1)) vertexLimit
 unfolding degree
 degree-more s n j a b m x y d la lb ea eb em h hx hy =
     add-at (λ v. degree s n v j + cond (eqb a v) 1 0) (set d a x) b m y lb (add-at (λ v. degree s n v j) d a 1 x la h hx) hy
-    ∙ tab-ext (λ v. (degree s n v j + cond (eqb a v) 1 0) + cond (eqb b v) m 0) (λ v. degree s n v (j + 1)) 64 (λ v l. step v)
+    ∙ tab-ext (λ v. (degree s n v j + cond (eqb a v) 1 0) + cond (eqb b v) m 0) (λ v. degree s n v (j + 1)) vertexLimit (λ v l. step v)
   where
     step : (v : ℕ) → (degree s n v j + cond (eqb a v) 1 0) + cond (eqb b v) m 0 ≡ degree s n v (j + 1)
     step v = let e = end-once a b v in rw (add-one, ← ea, ← eb, ← e, em) (omega arith)
@@ -114,12 +115,12 @@ unfolding degree
 degree-bound s n v zero = omega arith
 degree-bound s n v (suc k) = let e = one-at-most (eqb (endA s n k) v || eqb (endB s n k) v) in let r = degree-bound s n v k in omega arith
 
-pub degree-low : (s : List ℕ) (n j v : ℕ) (d : List ℕ) → v < 64 → d ≡ tab (λ x. degree s n x j) 64 → getD d v 0 ≤ j
-degree-low s n j v d l h = rw (h, getD-tab (λ x. degree s n x j) 64 v 0 l) (degree-bound s n v j)
+pub degree-low : (s : List ℕ) (n j v : ℕ) (d : List ℕ) → v < vertexLimit → d ≡ tab (λ x. degree s n x j) vertexLimit → getD d v 0 ≤ j
+degree-low s n j v d l h = rw (h, getD-tab (λ x. degree s n x j) vertexLimit v 0 l) (degree-bound s n v j)
 
-pub degree-after : (s : List ℕ) (n j a b x : ℕ) (d : List ℕ) → a < 64 → b < 64 → d ≡ tab (λ v. degree s n v j) 64 → x ≡ getD d a 0 + 1 → getD (set d a x) b 0 ≤ j + 1
+pub degree-after : (s : List ℕ) (n j a b x : ℕ) (d : List ℕ) → a < vertexLimit → b < vertexLimit → d ≡ tab (λ v. degree s n v j) vertexLimit → x ≡ getD d a 0 + 1 → getD (set d a x) b 0 ≤ j + 1
 degree-after s n j a b x d la lb h e =
-    let long : length d ≡ 64 = rw h (length-tab (λ v. degree s n v j) 64) in
+    let long : length d ≡ vertexLimit = rw h (length-tab (λ v. degree s n v j) vertexLimit) in
     let p = degree-low s n j a d la h in
     let q = degree-low s n j b d lb h in
     ⊎-elim

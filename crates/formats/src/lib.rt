@@ -1,4 +1,4 @@
-//! Readers over bytes: why a table or a tree is turned down (items 1 to 12), what stands in them, and a tree's neighbours.
+//! Readers over bytes: why a table or a tree is refused (items 1 to 12), what stands in them, and a tree's neighbours.
 pub mod bytes;
 pub mod inputs;
 pub mod marks;

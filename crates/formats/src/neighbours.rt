@@ -9,6 +9,7 @@ ghost use lib.ListN.{getD};
 ghost use mathlib.Core.Path.{_≡_};
 ghost use mathlib.Core.Bool.{cond};
 ghost use Rattle.foundations.specs.Lists.{tab};
+ghost use Rattle.model.specs.Limits.{degreeLimit};
 ghost use Rattle.model.specs.Tree.{count};
 ghost use Rattle.model.specs.Graph.{neighbourTable, edgeLabelTable};
 ghost use Rattle.trees.specs.Accepted.{Ends};
@@ -21,7 +22,7 @@ fn stays(x: u8, c: u8) -> u8
     if x <= c { x } else { c }
 }
 
-// The greater is carried on, and nothing, 255, where the two are the same.
+// The greater is carried on, and `NONE` where the two are the same.
 fn carry(x: u8, c: u8) -> u8
     ensures { λ r. ⌜ r ≡ carried x c ⌝ }
 {
@@ -38,7 +39,7 @@ fn put_in(row: [u8; 8], w: u8) -> [u8; 8]
     let mut r = row;
     let mut c = w;
     let mut i: usize = 0;
-    while i < 8 {
+    while i < model::Limits::PLACES {
         let x = r[i];
         let low = stays(x, c);
         let high = carry(x, c);
@@ -55,7 +56,7 @@ pub fn neighbour_table(s: &[u8]) -> [[u8; 8]; 64]
     ensures { λ r. ⌜ r ≡ neighbourTable (now (s .entry)) ⌝ }
 {
     let n = vertex_count(s);
-    let mut t = [[255u8; 8]; 64];
+    let mut t = [[model::Limits::NONE; 8]; 64];
     let mut j: usize = 0;
     while j + 1 < n {
         let a = end_a(s, n, j);
@@ -78,11 +79,11 @@ fn label_of(x: u8, w: u8, l: u8, label: u8) -> u8
 
 // The labels in a row's places, with l in the place of w.
 fn label_in(labels: [u8; 8], names: [u8; 8], w: u8, l: u8) -> [u8; 8]
-    ensures { λ r. ⌜ r ≡ tab (λ i. cond (eqb w (getD names i 0)) l (getD labels i 0)) 8 ⌝ }
+    ensures { λ r. ⌜ r ≡ tab (λ i. cond (eqb w (getD names i 0)) l (getD labels i 0)) degreeLimit ⌝ }
 {
     let mut r = [0u8; 8];
     let mut i: usize = 0;
-    while i < 8 {
+    while i < model::Limits::PLACES {
         let x = label_of(names[i], w, l, labels[i]);
         r[i] = x;
         i += 1;
@@ -97,7 +98,7 @@ pub fn edge_label_table(s: &[u8], neighbours: &[[u8; 8]; 64]) -> [[u8; 8]; 64]
     ensures { λ r. ⌜ r ≡ edgeLabelTable (now (s .entry)) ⌝ }
 {
     let n = vertex_count(s);
-    let mut t = [[255u8; 8]; 64];
+    let mut t = [[model::Limits::NONE; 8]; 64];
     let mut j: usize = 0;
     while j + 1 < n {
         let a = end_a(s, n, j);

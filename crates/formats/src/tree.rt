@@ -1,12 +1,13 @@
-//! Why a tree is turned down: items 3 to 7, and 8 to 12 for the found tree; its count, labels and edge ends.
+//! Why a tree is refused: items 3 to 7, and 8 to 12 for the found tree; its count, labels and edge ends.
 use crate::marks::is_mark;
-ghost use Prim.Native.Nat.{ℕ, _+_, _*_, _<_, _≤_, _-_};
-ghost use lib.ListN.{getD, length};
-ghost use lib.Dec.{eqb, ltb, leb};
+ghost use Prim.Native.Nat.{_+_, _*_, _<_, _-_};
+ghost use lib.ListN.{getD};
+ghost use lib.Dec.{eqb, ltb};
 ghost use mathlib.Core.Path.{_≡_};
-ghost use mathlib.Core.Bool.{true, _||_, _&&_, cond};
+ghost use mathlib.Core.Bool.{true, _&&_, cond};
 ghost use Rattle.foundations.specs.Lists.{every, tab};
-ghost use Rattle.model.specs.Bytes.{isMark, vertexMark, edgeMark, byteAt};
+ghost use Rattle.model.specs.Bytes.{isMark, vertexMark, edgeMark};
+ghost use Rattle.model.specs.Limits.{vertexLimit};
 ghost use Rattle.model.specs.Refusals.{firstOf};
 ghost use Rattle.model.specs.Tree.{count, vertexLabel, endA, endB, edgeLabelAt, vertexStart, edgeStart, sized, marked, labelsKnown, endsLow, acyclic, degree, fewEdges, treeItem};
 ghost use Rattle.trees.specs.Accepted.{Whole, Ends};
@@ -192,11 +193,11 @@ fn renamed(y: u8, from: u8, to: u8) -> u8
 
 // The components with `to` in the place of `from`.
 fn merged(l: [u8; 64], from: u8, to: u8) -> [u8; 64]
-    ensures { λ r. ⌜ r ≡ tab (λ x. cond (eqb (getD l x 0) from) to (getD l x 0)) 64 ⌝ }
+    ensures { λ r. ⌜ r ≡ tab (λ x. cond (eqb (getD l x 0) from) to (getD l x 0)) vertexLimit ⌝ }
 {
     let mut r = [0u8; 64];
     let mut x: usize = 0;
-    while x < 64 {
+    while x < model::Limits::ROWS {
         let y = renamed(l[x], from, to);
         r[x] = y;
         x += 1;
@@ -206,11 +207,11 @@ fn merged(l: [u8; 64], from: u8, to: u8) -> [u8; 64]
 
 // Each vertex a component of its own.
 fn own_components() -> [u8; 64]
-    ensures { λ r. ⌜ r ≡ tab (λ x. x) 64 ⌝ }
+    ensures { λ r. ⌜ r ≡ tab (λ x. x) vertexLimit ⌝ }
 {
     let mut r = [0u8; 64];
     let mut x: usize = 0;
-    while x < 64 {
+    while x < model::Limits::ROWS {
         r[x] = x as u8;
         x += 1;
     }
@@ -249,7 +250,7 @@ fn second(a: u8, b: u8) -> u8
 // How many edges end at each vertex.
 fn degrees(s: &[u8], n: usize) -> [u8; 64]
     requires { ⌜ Ends (now s) n ⌝ }
-    ensures { λ r. ⌜ r ≡ tab (λ v. degree (now (s .entry)) n v (n - 1)) 64 ⌝ }
+    ensures { λ r. ⌜ r ≡ tab (λ v. degree (now (s .entry)) n v (n - 1)) vertexLimit ⌝ }
 {
     let mut d = [0u8; 64];
     let mut j: usize = 0;

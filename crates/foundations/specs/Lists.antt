@@ -3,7 +3,7 @@ use mathlib.Core.Path.{_≡_, refl, sym, ap, _∙_}
 use mathlib.Core.Logic.{⊎-elim}
 use mathlib.Core.Bool.{Bool, true, false, _&&_, cond}
 use mathlib.Core.List.{List, [], _∷_, _++_, append-assoc, append-nil}
-use Prim.Native.Nat.{ℕ, zero, suc, _+_, _-_, _≤_, _<_, min}
+use Prim.Native.Nat.{ℕ, zero, suc, _+_, _*_, _-_, _≤_, _<_, min}
 use native.Mathlib.Omega.{arith}
 use native.Mathlib.Decide.{ℕ-discrete}
 use native.Mathlib.Numerals.{add-one}
@@ -53,6 +53,31 @@ every-fails p k (suc n) h e = go (ℕ-discrete k n) (λ l. every-fails p k n l e
     go : Dec (k ≡ n) → (k < n → every p n ≡ false) → (every p n && p n) ≡ false
     go (yes q) r = rw (← q, e) (and-false (every p k))
     go (no q) r = rw (r (omega arith))
+
+and-assoc : (a b c : Bool) → (a && (b && c)) ≡ ((a && b) && c)
+and-assoc true b c = refl
+and-assoc false b c = refl
+
+and-one : (a : Bool) → a ≡ (a && true)
+and-one true = refl
+and-one false = refl
+
+-- a test over a + b numbers
+pub every-sum : (p : ℕ → Bool) (a b : ℕ) → every p (a + b) ≡ (every p a && every (λ k. p (a + k)) b)
+unfolding every
+every-sum p a zero = let e : a + 0 ≡ a = omega arith in rw e (and-one (every p a))
+every-sum p a (suc b) = let e : a + suc b ≡ suc (a + b) = omega arith in rw (e, every-sum p a b) (sym (and-assoc (every p a) (every (λ k. p (a + k)) b) (p (a + b))))
+
+-- over i rows of w numbers, with those of row i
+pub every-row : (p : ℕ → Bool) (w i : ℕ) (ok t : Bool) → ok ≡ every p (i * w) → t ≡ every (λ k. p (i * w + k)) w → (ok && t) ≡ every p ((i + 1) * w)
+every-row p w i ok t a b = rw (a, b) (sym (every-sum p (i * w) w) ∙ sym (ap (every p) (next i w)))
+  where
+    next : (i w : ℕ) → (i + 1) * w ≡ i * w + w
+    next i w = rw (add-one i) (omega arith)
+
+pub every-no-row : (p : ℕ → Bool) (w : ℕ) → true ≡ every p (0 * w)
+unfolding every
+every-no-row p w = let e : 0 * w ≡ 0 = omega arith in rw e
 
 -- ---- the values of f at 0, 1, .. below k
 
@@ -108,14 +133,6 @@ take-tab g k (suc n) h = ⊎-elim
 unfoldable pub below : (ℕ → Bool) → ℕ → List ℕ
 below p zero = []
 below p (suc k) = below p k ++ cond (p k) (k ∷ []) []
-
-pub below-yes : (p : ℕ → Bool) (w : ℕ) → p w ≡ true → below p (w + 1) ≡ below p w ++ (w ∷ [])
-unfolding below
-below-yes p w h = rw (add-one, below, h)
-
-pub below-no : (p : ℕ → Bool) (w : ℕ) → p w ≡ false → below p (w + 1) ≡ below p w
-unfolding below
-below-no p w h = rw (add-one, below, h) (append-nil (below p w))
 
 pub below-ext : (p q : ℕ → Bool) (k : ℕ) → ((w : ℕ) → w < k → p w ≡ q w) → below p k ≡ below q k
 unfolding below

@@ -2,8 +2,8 @@
 use mathlib.Core.Path.{_≡_, refl, sym, ap, _∙_, subst}
 use mathlib.Core.Logic.{_⊎_, inl, inr, ⊎-elim, _≢_}
 use mathlib.Core.Bool.{Bool, true, false, _&&_}
-use mathlib.Core.List.{List, [], _∷_, _++_}
-use Prim.Native.Nat.{ℕ, zero, suc, _+_, _*_, _≤_, _<_, zero-le}
+use mathlib.Core.List.{List, [], _∷_}
+use Prim.Native.Nat.{ℕ, zero, suc, _+_, _*_, _≤_, _<_}
 use native.Mathlib.Omega.{arith}
 use native.Mathlib.Numerals.{add-one}
 use native.Mathlib.Nat.{not-suc-le-zero, add-zero, add-suc, suc-mul}
@@ -12,7 +12,7 @@ use lib.Dec.{T, eqb}
 use borrow.Author.Tests.{eq-eqb}
 use lib.Signed.{_≤ℤ_, ≤ℤ-refl}
 use Rattle.foundations.specs.Tests.{same?, same, true→T, T→true, not-T→false, somewhere}
-use Rattle.foundations.specs.Int.{up, dn, canon, int, sums, plus, +ℤ-mono}
+use Rattle.foundations.specs.Int.{up, dn, canon, sums, plus, +ℤ-mono}
 
 -- ---- natural numbers
 
@@ -29,11 +29,6 @@ unfolding sum
 sum-ext zero f g h = refl
 sum-ext (suc n) f g h = omega (arith, sum-ext n f g (λ i l. h i (omega arith)), h n (omega arith))
 
-pub sum-le : (n : ℕ) (f g : ℕ → ℕ) → ((i : ℕ) → i < n → f i ≤ g i) → sum n f ≤ sum n g
-unfolding sum
-sum-le zero f g h = zero-le
-sum-le (suc n) f g h = omega (arith, sum-le n f g (λ i l. h i (omega arith)), h n (omega arith))
-
 pub sum-add : (n : ℕ) (f g : ℕ → ℕ) → sum n (λ i. f i + g i) ≡ sum n f + sum n g
 unfolding sum
 sum-add zero f g = refl
@@ -43,11 +38,6 @@ pub sum-zero : (n : ℕ) (f : ℕ → ℕ) → ((i : ℕ) → i < n → f i ≡ 
 unfolding sum
 sum-zero zero f h = refl
 sum-zero (suc n) f h = omega (arith, sum-zero n f (λ i l. h i (omega arith)), h n (omega arith))
-
-pub sum-swap : (n m : ℕ) (f : ℕ → ℕ → ℕ) → sum n (λ i. sum m (λ j. f i j)) ≡ sum m (λ j. sum n (λ i. f i j))
-unfolding sum
-sum-swap zero m f = sym (sum-zero m (λ j. 0) (λ j l. refl))
-sum-swap (suc n) m f = ap (λ (z : ℕ). z + sum m (f n)) (sum-swap n m f) ∙ sym (sum-add m (λ j. sum n (λ i. f i j)) (f n))
 
 -- the first n and the next m
 pub sum-append : (n m : ℕ) (f : ℕ → ℕ) → sum (n + m) f ≡ sum n f + sum m (λ i. f (n + i))
@@ -151,11 +141,6 @@ unfolding sumℤ
 sumℤ-swap zero m f = sym (sumℤ-zero m)
 sumℤ-swap (suc n) m f = rw (sumℤ-swap n m f) (sym (sumℤ-add m (λ j. sumℤ n (λ i. f i j)) (f n)))
 
-pub sumℤ-append : (n m : ℕ) (f : ℕ → ℤ) → sumℤ (n + m) f ≡ sumℤ n f +ℤ sumℤ m (λ i. f (n + i))
-unfolding sumℤ
-sumℤ-append n zero f = rw add-zero (sym (+ℤ-idr (sumℤ n f)))
-sumℤ-append n (suc m) f = rw (add-suc, sumℤ-append n m f) (+ℤ-assoc (sumℤ n f) (sumℤ m (λ i. f (n + i))) (f (n + m)))
-
 -- the first and the rest
 pub sumℤ-first : (n : ℕ) (f : ℕ → ℤ) → sumℤ (suc n) f ≡ f 0 +ℤ sumℤ n (λ i. f (suc i))
 unfolding sumℤ
@@ -185,19 +170,6 @@ sumℤ-one (suc n) k f h = ⊎-elim
     (λ e. rw (sumℤ-none n k f (omega (arith, e .0)), e .1, e .0) (+ℤ-idl (f n)))
     (λ e. rw (sumℤ-one n k f (omega (arith, e .0)), e .1) (+ℤ-idr (f k)))
     (same k n)
-
--- two functions that differ at c alone
-pub sumℤ-point : (n : ℕ) (f g : ℕ → ℤ) (c : ℕ) → c < n → ((j : ℕ) → j < n → j ≢ c → f j ≡ g j) → sumℤ n f +ℤ g c ≡ sumℤ n g +ℤ f c
-unfolding sumℤ
-sumℤ-point zero f g c l e = absurd (not-suc-le-zero l)
-sumℤ-point (suc n) f g c l e =
-    ⊎-elim
-    (λ q. let s : sumℤ n f ≡ sumℤ n g = sumℤ-ext n f g (λ i lt. e i (omega arith) (λ p. omega arith)) in
-    omega (int, plus (sumℤ n f) (f n), plus (sumℤ n g) (g n), s, ap f q, ap g q))
-    (λ q. let r : sumℤ n f +ℤ g c ≡ sumℤ n g +ℤ f c = sumℤ-point n f g c (omega arith) (λ i lt. e i (omega arith)) in
-    let s : f n ≡ g n = e n (omega arith) (λ p. q (sym p)) in
-    omega (int, plus (sumℤ n f) (f n), plus (sumℤ n g) (g n), s))
-    (same? c n)
 
 pub pick-zero : (b : Bool) → pick b (pos 0) ≡ pos 0
 pick-zero true = refl
@@ -267,8 +239,3 @@ sumℤ-size-0 (suc n) k f z h = omega (arith, size-plus (sumℤ n f +ℤ f n) (f
 unfoldable pub lsum : List ℕ → (ℕ → ℤ) → ℤ
 lsum [] f = pos 0
 lsum (x ∷ l) f = f x +ℤ lsum l f
-
-pub lsum-append : (l m : List ℕ) (f : ℕ → ℤ) → lsum (l ++ m) f ≡ lsum l f +ℤ lsum m f
-unfolding lsum
-lsum-append [] m f = sym (+ℤ-idl (lsum m f))
-lsum-append (x ∷ l) m f = rw (lsum-append l m f) (sym (+ℤ-assoc (f x) (lsum l f) (lsum m f)))

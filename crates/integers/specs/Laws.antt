@@ -1,22 +1,22 @@
 -- Laws of the model's integers and weights: four bytes and an integer, the forbidden number, ranges, gains, stored values. Assumes nothing.
 use mathlib.Core.Path.{_≡_, refl, sym, ap, _∙_, subst}
-use mathlib.Core.Bool.{Bool, true, false, not, cond, true≢false}
+use mathlib.Core.Bool.{Bool, true, false, cond, true≢false}
 use mathlib.Core.Logic.{_⊎_, _≢_, ⊎-elim, inl, inr}
 use mathlib.Core.List.{List}
 use Prim.Native.Nat.{ℕ, suc, _+_, _-_, _/_, _%_, _≤_, _<_}
 use native.Mathlib.Omega.{arith}
 use lib.ListN.{length, getD, length-set}
 use lib.Seq.{getD-set-same, getD-set-other, set-getD}
-use lib.Dec.{T, ltb, eqb, ltb→lt, nltb→le}
+use lib.Dec.{ltb, eqb}
 use lib.IntN.{ℤ, pos, negsuc, _+ℤ_, negℤ}
 use lib.Signed.{_≤ℤ_, _<ℤ_, leZ, ltZ}
 use borrow.Author.Needs.{below-set}
 use borrow.Author.Tests.{lt-ltb, le-ltb, eqb-true, eq-eqb, ne-eqb}
 use mir.Syntax.{w32}
 use mir.Val.{SFits, ofZ}
-use Rattle.foundations.specs.Tests.{and-split, or-split, or-true, same-test}
+use Rattle.foundations.specs.Tests.{and-split, or-split, same-test}
 use Rattle.foundations.specs.Int.{up, dn, int, ints}
-use Rattle.model.specs.Limits.{weightLimit, ceiling, forbidden}
+use Rattle.model.specs.Limits.{weightLimit, ceiling, forbidden, forbiddenRank}
 use Rattle.model.specs.Bytes.{word, signed32, bits32, int32At, putWord, putInt32}
 use Rattle.model.specs.Weights.{isForbidden, inRange, weightOk, stored}
 use Rattle.integers.specs.Results.{StoredValue}
@@ -54,14 +54,6 @@ bits32-signed32 n h = go (ltb n 2147483648)
     go : (t : Bool) → bits32 (cond t (pos n) (negsuc (4294967295 - n))) ≡ n
     go true = refl
     go false = omega arith
-
-pub sfits-signed32 : (n : ℕ) → n < 4294967296 → SFits w32 (signed32 n)
-unfolding signed32
-sfits-signed32 n h = go (ltb n 2147483648) (ltb→lt n 2147483648) (nltb→le n 2147483648)
-  where
-    go : (t : Bool) → (T t → n < 2147483648) → (T (not t) → 2147483648 ≤ n) → SFits w32 (cond t (pos n) (negsuc (4294967295 - n)))
-    go true y k = omega (ints, y tt)
-    go false y k = omega (ints, k tt)
 
 -- ---- four bytes, low byte first
 
@@ -148,20 +140,12 @@ module _ (l : List ℕ) (k : ℕ) (h : (i : ℕ) → getD l i 0 < 256) where
       let lt : word b0 b1 b2 b3 < 4294967296 = omega arith in
       simp (bits32-signed32, word-byte0 b0 b1 b2 b3 h0, word-byte1 b0 b1 b2 b3 h0 h1, word-byte2 b0 b1 b2 b3 h0 h1 h2, word-byte3 b0 b1 b2 b3 h0 h1 h2, set-getD)
 
-  -- the integer at a place fits 32 bits
-  pub int32At-fits : SFits w32 (int32At l k)
-  int32At-fits = sfits-signed32 _ (omega (arith, h k, h (k + 1), h (k + 2), h (k + 3)))
-
 -- ---- the forbidden number
 
 pub isForbidden-true : (z : ℤ) → isForbidden z ≡ true → z ≡ forbidden
 unfolding isForbidden
 isForbidden-true (pos n) e = absurd (true≢false (sym e))
-isForbidden-true (negsuc n) e = ap negsuc (eqb-true n 2147483647 e)
-
-pub isForbidden-holds : (z : ℤ) → z ≡ forbidden → isForbidden z ≡ true
-unfolding isForbidden
-isForbidden-holds z e = rw e
+isForbidden-true (negsuc n) e = ap negsuc (eqb-true n forbiddenRank e)
 
 -- the machine compares bits
 pub forbidden-bits : (z : ℤ) → SFits w32 z → eqb (ofZ w32 z) 2147483648 ≡ isForbidden z
@@ -170,9 +154,9 @@ forbidden-bits (pos n) f = ne-eqb n 2147483648 (λ e. omega ints)
 forbidden-bits (negsuc n) f =
     same-test
     (eqb (4294967296 - suc n) 2147483648)
-    (eqb n 2147483647)
-    (λ e. let h : 4294967296 - suc n ≡ 2147483648 = eqb-true _ _ e in eq-eqb n 2147483647 (omega ints))
-    (λ e. let h : n ≡ 2147483647 = eqb-true _ _ e in eq-eqb (4294967296 - suc n) 2147483648 (omega ints))
+    (eqb n forbiddenRank)
+    (λ e. let h : 4294967296 - suc n ≡ 2147483648 = eqb-true _ _ e in eq-eqb n forbiddenRank (omega ints))
+    (λ e. let h : n ≡ forbiddenRank = eqb-true _ _ e in eq-eqb (4294967296 - suc n) 2147483648 (omega ints))
 
 -- ---- ranges
 
@@ -182,28 +166,10 @@ inRange-true z e =
     let p = and-split (leZ (negℤ (pos weightLimit)) z) (leZ z (pos weightLimit)) e in
     (omega (ints, p .0), omega (ints, p .1))
 
-pub inRange-holds : (z : ℤ) → negℤ (pos weightLimit) ≤ℤ z → z ≤ℤ pos weightLimit → inRange z ≡ true
-unfolding inRange
-inRange-holds z h k =
-    let p : leZ (negℤ (pos weightLimit)) z ≡ true = omega ints in
-    let q : leZ z (pos weightLimit) ≡ true = omega ints in
-    simp (p, q)
-
--- a number in range is not forbidden
-pub inRange-allowed : (z : ℤ) → inRange z ≡ true → isForbidden z ≡ false
-unfolding isForbidden
-inRange-allowed (pos n) e = refl
-inRange-allowed (negsuc n) e = let p = inRange-true (negsuc n) e in ne-eqb n 2147483647 (λ q. omega (int, p .0))
-
 -- what may stand in a table: forbidden, or within the limit
 pub weightOk-true : (z : ℤ) → weightOk z ≡ true → (z ≡ forbidden) ⊎ ((negℤ (pos weightLimit) ≤ℤ z) × (z ≤ℤ pos weightLimit))
 unfolding weightOk
 weightOk-true z e = ⊎-elim (λ p. inl (isForbidden-true z p)) (λ p. inr (inRange-true z p)) (or-split (isForbidden z) (inRange z) e)
-
-pub weightOk-holds : (z : ℤ) → (z ≡ forbidden) ⊎ ((negℤ (pos weightLimit) ≤ℤ z) × (z ≤ℤ pos weightLimit)) → weightOk z ≡ true
-unfolding weightOk
-weightOk-holds z (inl e) = rw (isForbidden-holds z e)
-weightOk-holds z (inr r) = rw (inRange-holds z (r .0) (r .1)) (or-true (isForbidden z))
 
 -- what `stored_value` requires, from an entry of a table that is not forbidden
 pub weightOk-number : (z : ℤ) → weightOk z ≡ true → isForbidden z ≡ false → inRange z ≡ true

@@ -1,7 +1,8 @@
 //! Leaf functions on 32-bit integers: bytes to a weight and back, the tests of a weight, and the arithmetic of one subproblem.
 ghost use mathlib.Core.Path.{_≡_};
 ghost use mathlib.Core.Bool.{true};
-ghost use Prim.Native.Nat.{_+_, _≤_, _^_};
+ghost use Prim.Native.Nat.{_+_, _≤_, _<_, _^_};
+ghost use Rattle.foundations.specs.Int.{up};
 ghost use Rattle.model.specs.Bytes.{word, signed32, bits32, int32, int32At, putWord, putInt32};
 ghost use Rattle.model.specs.Weights.{isForbidden, inRange, weightOk};
 ghost use Rattle.integers.specs.Results.{Gain, StoredValue};
@@ -95,6 +96,13 @@ pub fn weight_ok(w: i32) -> bool
     ensures { λ r. ⌜ r ≡ weightOk w ⌝ }
 {
     is_forbidden(w) | in_range(w)
+}
+
+// The greater of 0 and x.
+pub fn above_zero(x: i32) -> u32
+    ensures { λ r. ⌜ (r ≡ up x) × (r < 2 ^ 31) ⌝ }
+{
+    if x <= 0 { 0 } else { x as u32 }
 }
 
 // The greater of 0 and the sum of an edge weight and a value.

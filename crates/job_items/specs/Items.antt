@@ -1,17 +1,17 @@
 -- The items of start, advance and finish, one after the other. Assumes nothing.
-use mathlib.Core.Path.{_≡_, refl, sym, _∙_}
+use mathlib.Core.Path.{_≡_, refl, sym, ap, _∙_}
 use mathlib.Core.Logic.{_≢_, ⊎-elim}
 use mathlib.Core.Bool.{Bool, true, false, not, cond, _&&_, true≢false}
-use mathlib.Core.List.{List, [], _∷_, _++_}
+use mathlib.Core.List.{List, [], _∷_, _++_, append-assoc}
 use Prim.Native.Nat.{ℕ, _*_, _-_, _≤_, _<_}
 use native.Mathlib.Omega.{arith}
-use native.Mathlib.Nat.{mul-le-mul}
 use lib.ListN.{length}
 use lib.Dec.{eqb, ltb, leb}
 use lib.IntN.{ℤ}
 use borrow.Author.Tests.{lt-ltb, le-ltb, eqb-true, leb-true}
 use Rattle.foundations.specs.Tests.{same?, less?, and-split}
 use Rattle.model.specs.declared.JobRecord.{JobRecord}
+use Rattle.model.specs.Limits.{vertexLimit}
 use Rattle.model.specs.Refusals.{item, firstOf}
 use Rattle.model.specs.Tree.{count}
 use Rattle.model.specs.Order.{width, subproblems}
@@ -66,28 +66,14 @@ pub record-is : (j : JobRecord) → early j ≡ true → recordOk j ≡ leb (j .
 unfolding recordOk
 record-is j h = and-end (not (j .idle)) (countOk (j .n)) (countOk (j .m)) (leb (j .position) (j .n * (3 * j .m - 2))) h
 
--- the counts are then small, and so is their product
-pub record-small : (j : JobRecord) → early j ≡ true → (1 ≤ j .m) × (j .m ≤ 64) × (j .n ≤ 64)
-record-small j h =
+-- the counts are then those of trees
+pub record-counts : (j : JobRecord) → early j ≡ true → (j .n ≤ vertexLimit) × (1 ≤ j .m) × (j .m ≤ vertexLimit)
+record-counts j h =
     let a = and-split (not (j .idle)) (countOk (j .n) && countOk (j .m)) h .1 in
     let b = and-split (countOk (j .n)) (countOk (j .m)) a in
-    let n = and-split (leb 1 (j .n)) (leb (j .n) 64) (b .0) in
-    let m = and-split (leb 1 (j .m)) (leb (j .m) 64) (b .1) in
-    (leb-true 1 (j .m) (m .0), leb-true (j .m) 64 (m .1), leb-true (j .n) 64 (n .1))
-
-pub product-fits : (n x : ℕ) → n ≤ 64 → x ≤ 192 → n * x < 4294967296
-product-fits n x k l = let h : n * x ≤ 64 * 192 = mul-le-mul k l in omega arith
-
-pub left-none : (j : JobRecord) (r f : List ℕ) (m : ℕ) → m ≡ count f → m ≡ 0 → false ≡ isLeft j r f
-unfolding isLeft subproblems width
-left-none j r f m e z =
-    let w : 3 * count f - 2 ≡ 0 = omega arith in
-    let p : count r * (3 * count f - 2) ≡ 0 = rw w (omega arith) in
-    sym (le-ltb (j .position) (count r * (3 * count f - 2)) (omega arith))
-
-pub left-is : (j : JobRecord) (r f : List ℕ) (n m : ℕ) → n ≡ count r → m ≡ count f → ltb (j .position) (n * (3 * m - 2)) ≡ isLeft j r f
-unfolding isLeft subproblems width
-left-is j r f n m d e = rw (d, e)
+    let n = and-split (leb 1 (j .n)) (leb (j .n) vertexLimit) (b .0) in
+    let m = and-split (leb 1 (j .m)) (leb (j .m) vertexLimit) (b .1) in
+    (leb-true (j .n) vertexLimit (n .1), leb-true 1 (j .m) (m .0), leb-true (j .m) vertexLimit (m .1))
 
 module _ (table r f : List ℕ) (work : List ℤ) where
   -- ---- start: 1 to 13
@@ -120,6 +106,35 @@ module _ (table r f : List ℕ) (work : List ℤ) where
 
   start-numbered : Numbered (startItems table r f work)
   start-numbered = numbered-append (input-numbered table r f) (more {k = 13} (omega arith) end)
+
+  -- ---- a call that tests 1 to 13 and one item more (the match in one call 18, writing a certificate 19), which applies where x is less than y
+
+  module _ (k x y : ℕ) where
+    abbrev lastItem : ℕ
+    lastItem = firstOf (inputItems table r f ++ (workItem r f work ∷ item k (ltb x y) ∷ []))
+
+    regroup : inputItems table r f ++ (workItem r f work ∷ item k (ltb x y) ∷ []) ≡ startItems table r f work ++ (item k (ltb x y) ∷ [])
+    regroup = sym (append-assoc (inputItems table r f) (workItem r f work ∷ []) (item k (ltb x y) ∷ []))
+
+    pub last-start : startItem table r f work ≢ 0 → lastItem ≡ startItem table r f work
+    unfolding startItem
+    last-start h = ap firstOf regroup ∙ first-here (startItems table r f work) (item k (ltb x y) ∷ []) h
+
+    last-late : startItem table r f work ≡ 0 → lastItem ≡ cond (ltb x y) k 0
+    unfolding startItem firstOf
+    last-late e = ap firstOf regroup ∙ first-then (item k (ltb x y) ∷ []) start-numbered e
+
+    pub last-yes : startItem table r f work ≡ 0 → x < y → lastItem ≡ k
+    last-yes e h = last-late e ∙ rw (lt-ltb x y h)
+
+    pub last-none : startItem table r f work ≡ 0 → y ≤ x → lastItem ≡ 0
+    last-none e h = last-late e ∙ rw (le-ltb x y h)
+
+    pub last-passed : 1 ≤ k → lastItem ≡ 0 → (inputItem table r f ≡ 0) × (subproblems r f ≤ length work) × (y ≤ x)
+    last-passed some h =
+        let s : startItem table r f work ≡ 0 = ⊎-elim (λ e. e) (λ n. absurd (n (sym (last-start n) ∙ h))) (same? (startItem table r f work) 0) in
+        let p = start-passed s in
+        (p .0, p .1, ⊎-elim (λ l. let e : k ≡ 0 = sym (last-yes s l) ∙ h in absurd (omega arith)) (λ l. l) (less? x y))
 
   module _ (j : JobRecord) where
     -- ---- 14 and 15

@@ -3,12 +3,14 @@ pub mod work;
 
 use formats::bytes::byte_or_zero;
 use formats::inputs::input_item;
-use formats::tree::vertex_count;
 use model::JobRecord;
+use plan::counts::product;
+use plan::counts::subproblem_count;
 ghost use mathlib.Core.Path.{_≡_};
 ghost use lib.Dec.{eqb};
 ghost use Rattle.model.specs.Tree.{count};
 ghost use Rattle.model.specs.Jobs.{countOk, recordOk, sameTrees, isLeft, startItem};
+ghost use Rattle.trees.specs.Accepted.{Sound};
 ghost use Rattle.job_items.specs.Items.{earlyItem};
 
 // The first of the items 1 to 13 that applies, 0 for none.
@@ -19,9 +21,7 @@ pub fn start_item(table: &[u8], recorded: &[u8], found: &[u8], work: &[i32]) -> 
     if i != 0 {
         return i;
     }
-    let n = vertex_count(recorded);
-    let m = vertex_count(found);
-    if work.len() < n * (3 * m - 2) {
+    if work.len() < subproblem_count(recorded, found) {
         return 13;
     }
     0
@@ -44,7 +44,7 @@ fn record_ok(job: JobRecord) -> bool
     if !fine {
         return false;
     }
-    job.position <= job.n * (3 * job.m - 2)
+    (job.position as usize) <= product(job.n as usize, job.m as usize)
 }
 
 // The record's count is that of the tree.
@@ -84,12 +84,9 @@ pub fn early_item(job: JobRecord, table: &[u8], recorded: &[u8], found: &[u8], w
 
 // Item 17 applies: the job has subproblems left.
 pub fn is_left(job: JobRecord, recorded: &[u8], found: &[u8]) -> bool
+    requires { ⌜ Sound (now recorded) ⌝ }
+    requires { ⌜ Sound (now found) ⌝ }
     ensures { λ r. ⌜ r ≡ isLeft job (now (recorded .entry)) (now (found .entry)) ⌝ }
 {
-    let n = byte_or_zero(recorded, 2) as u32;
-    let m = byte_or_zero(found, 2) as u32;
-    if m == 0 {
-        return false;
-    }
-    job.position < n * (3 * m - 2)
+    (job.position as usize) < subproblem_count(recorded, found)
 }

@@ -1,17 +1,20 @@
 //! Item 16: the work numbers before the position, row by row, in a row by found vertex.
-use formats::tree::vertex_count;
-use solver::subproblem::pair_weight;
-use solver::subproblem::width_of;
-ghost use Prim.Native.Nat.{_+_, _≤_, min};
+use plan::counts::lesser;
+use plan::counts::width_of;
+use plan::degree;
+use plan::in_order;
+use plan::weights::vertex_pair;
+ghost use Prim.Native.Nat.{_+_, _≤_, _<_};
 ghost use lib.ListN.{length, getD};
 ghost use lib.IntN.{pos};
 ghost use mathlib.Core.Path.{_≡_};
 ghost use Rattle.foundations.specs.Lists.{every};
 ghost use Rattle.model.specs.Weights.{isForbidden};
-ghost use Rattle.model.specs.Order.{subproblems};
+ghost use Rattle.model.specs.Tree.{count};
+ghost use Rattle.model.specs.Order.{width, subproblems};
 ghost use Rattle.model.specs.Jobs.{workOk};
-ghost use Rattle.solver.specs.Plan.{Lent};
-ghost use Rattle.job_items.specs.Work.{Scanned, RowAt, rowTest, pairTest, inRange};
+ghost use Rattle.plan.specs.Plan.{Ready, Lent};
+ghost use Rattle.job_items.specs.Work.{rowTest, pairTest, inRange};
 
 // A work number may stand at an allowed pair.
 fn in_range(z: i32) -> bool
@@ -61,33 +64,27 @@ fn pair_ok(work: &[i32], from: usize, count: usize, weight: i32) -> bool
     all_in_range(work, from, count)
 }
 
-fn smaller(a: usize, b: usize) -> usize
-    ensures { λ r. ⌜ r ≡ min a b ⌝ }
-{
-    if a <= b { a } else { b }
-}
-
 // The first `upto` work numbers of recorded vertex u, which begin at `base`, may stand at their pairs, one found vertex after the other.
 fn row_ok(
     table: &[u8],
     recorded: &[u8],
     found: &[u8],
-    starts: &[usize; 65],
+    plan: &[[u8; 8]; 512],
     work: &[i32],
     base: usize,
     u: u8,
-    m: usize,
     upto: usize,
 ) -> bool
-    requires { ⌜ RowAt (now table) (now recorded) (now found) (now starts) (now work) base u m upto ⌝ }
+    requires { ⌜ Ready (now table) (now recorded) (now found) (now plan) ⌝ }
+    requires { ⌜ (u < count (now recorded)) × (upto ≤ width (now found)) × (base + upto ≤ length (now work)) ⌝ }
     ensures { λ r. ⌜ r ≡ every (rowTest (now (table .entry)) (now (recorded .entry)) (now (found .entry)) (now (work .entry)) base u) upto ⌝ }
 {
     let mut ok = true;
-    let mut v: usize = 0;
+    let mut v: u8 = 0;
     let mut k: usize = 0;
     while k < upto {
-        let w = pair_weight(table, recorded, found, u, v as u8);
-        let end = smaller(starts[v + 1], upto);
+        let w = vertex_pair(table, recorded, found, u, v);
+        let end = lesser(k + degree(plan, v) + 1, upto);
         let fits = pair_ok(work, base + k, end - k, w);
         ok = ok & fits;
         v += 1;
@@ -101,32 +98,29 @@ pub fn work_ok(
     table: &[u8],
     recorded: &[u8],
     found: &[u8],
-    order: &[u8; 64],
-    starts: &[usize; 65],
+    plan: &[[u8; 8]; 512],
     work: &[i32],
     position: usize,
 ) -> bool
-    requires { ⌜ Scanned (now table) (now recorded) (now found) (now order) (now starts) ⌝ }
+    requires { ⌜ Ready (now table) (now recorded) (now found) (now plan) ⌝ }
     requires { ⌜ Lent (now recorded) (now found) (now work) ⌝ }
     requires { ⌜ position ≤ subproblems (now recorded) (now found) ⌝ }
     ensures { λ r. ⌜ r ≡ workOk (now (table .entry)) (now (recorded .entry)) (now (found .entry)) (now (work .entry)) position ⌝ }
 {
-    let m = vertex_count(found);
     let width = width_of(found);
     let mut ok = true;
     let mut i: usize = 0;
     let mut base: usize = 0;
     while base < position {
-        let upto = smaller(width, position - base);
+        let upto = lesser(width, position - base);
         let fine = row_ok(
             table,
             recorded,
             found,
-            starts,
+            plan,
             work,
             base,
-            order[i],
-            m,
+            in_order(plan, i),
             upto,
         );
         ok = ok & fine;

@@ -21,13 +21,7 @@ use Rattle.subtrees.specs.Theorems.{work-solves, empty-mapping, empty-heaviest,
 use Rattle.readout.specs.Read.{WorkFits}
 use Rattle.readout.specs.CycleLaws.{ReadOut}
 use Rattle.readout.specs.ReadTheorems.{read-mapping, top-allowed, read-heaviest}
-use Rattle.solver.specs.Plan.{Known, Lent}
-use Rattle.one_call.specs.Top.{TopOf, AllAt, top-largest}
-use Rattle.one_call.specs.Assemble.{recorded-sound, found-sound}
-
--- what the search for the largest number takes, from what was read
-pub known-all : {table r f : List ℕ} {numbers : List ℤ} {rnear rlabels fnear flabels : List (List ℕ)} {place starts : List ℕ} {work : List ℤ} → Known table r f numbers rnear rlabels fnear flabels place starts → Lent r f work → AllAt r f work place starts
-known-all {table} {r} {f} K l = record { recorded = recorded-sound table r f (K .passes); found = found-sound table r f (K .passes); placed = K .placed; offsets = K .found .offsets; enough = l .enough }
+use Rattle.one_call.specs.Top.{TopOf, top-largest}
 
 -- a mapping in the first n bytes, its exact weight, and a heaviest one where the work numbers are the values
 pub record Delivered (table r f : List ℕ) (work : List ℤ) (mapping mapping′ : List ℕ) (w : ℤ) : Type 0 where

@@ -11,7 +11,7 @@ use lib.Signed.{leZ, _≤ℤ_}
 use borrow.Author.Tests.{ltb-false}
 use Rattle.foundations.specs.Lists.{every-at, every-all}
 use Rattle.foundations.specs.Tests.{T→true}
-use Rattle.model.specs.Limits.{weightLimit, ceiling, forbidden}
+use Rattle.model.specs.Limits.{weightLimit, ceiling}
 use Rattle.model.specs.Weights.{Weight, none, some, isForbidden, weighed}
 use Rattle.model.specs.Calls.{inputItem}
 use Rattle.model.specs.Order.{subproblems, index, uAt, vAt, sAt}

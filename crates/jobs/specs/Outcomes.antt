@@ -16,7 +16,7 @@ use Rattle.model.specs.Order.{subproblems}
 use Rattle.model.specs.Values.{fill}
 use Rattle.model.specs.Jobs.{startItem, advanceItem, started, startOf, slice, advanced, advanceOf, advanceWork}
 
--- ---- a call that is not turned down
+-- ---- a call that is not refused
 
 pub start-accepted : (j : JobRecord) (table r f : List ℕ) (work : List ℤ) → startItem table r f work ≡ 0 → startOf j table r f work ≡ record { job = started j r f; answer = Started }
 unfolding startOf

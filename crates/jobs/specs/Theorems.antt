@@ -1,6 +1,7 @@
--- The main theorems of jobs, over the definitions alone: the first item that applies (`refusal-first` of the three calls), the job in slices
--- (`sliced-job`), and finishing over any memory (`altered-finish`). Assumes nothing.
-use mathlib.Core.Path.{_≡_, refl, sym, ap, _∙_}
+-- The main theorems of jobs, over the definitions alone: the first item that applies (`start-refusal`, `advance-refusal`, `finish-refusal`), the job in slices
+-- (`lent-slice` and `lent-job`, with `each-slice` and `sliced-job` for one list throughout), and finishing over any memory (`altered-finish`). Assumes
+-- nothing.
+use mathlib.Core.Path.{_≡_, refl, sym, ap, _∙_, subst}
 use mathlib.Core.Logic.{_≢_, ⊎-elim}
 use mathlib.Core.List.{List, _++_}
 use Prim.Native.Nat.{ℕ, _+_, _-_, _≤_, min}
@@ -15,13 +16,14 @@ use Rattle.model.specs.declared.MatchAnswer.{MatchAnswer}
 use Rattle.model.specs.declared.MatchAnswer.the-variants.{Found}
 use Rattle.model.specs.Tree.{count}
 use Rattle.model.specs.Order.{subproblems}
+use Rattle.model.specs.Calls.{inputItem}
 use Rattle.model.specs.Mapping.{IsMapping, Heaviest, weight}
 use Rattle.model.specs.Values.{values, answer}
 use Rattle.model.specs.Match.{refusalOf, weightOf}
 use Rattle.model.specs.Jobs.{startItem, advanceItem, finishItem, startOf, started, slice, advanceOf, advanceWork, startRefusal, advanceRefusal, advanceCount, FinishCall}
 use Rattle.job_items.specs.Items.{start-passed}
 use Rattle.jobs.specs.Outcomes.{start-accepted, advance-accepted, start-refused, advance-refused, advance-unfilled}
-use Rattle.jobs.specs.Slices.{jobAfter, workAfter, together, Running, running-item, running-counts, running-step, running-finish, running-values, running-all}
+use Rattle.jobs.specs.Slices.{Sliced, begins, goes, jobAfter, workAfter, together, sliced-same, Running, running-item, running-counts, running-fills, running-step, running-lent, running-finish, running-values, behind, rest-same}
 
 -- ---- the first item that applies, and what a refusal leaves
 
@@ -69,11 +71,14 @@ module _ (j : JobRecord) (table r f : List ℕ) (work : List ℤ) (mapping mappi
 
 -- ---- a job in slices, over undisturbed memory
 
-module _ (table r f : List ℕ) (work : List ℤ) (passes : startItem table r f work ≡ 0) (j : JobRecord) where
-  begun : Running table r f work (j .total) 0 (startOf j table r f work .job) work
+module _ (table r f : List ℕ) (work : List ℤ) (passes : startItem table r f work ≡ 0) (j₀ : JobRecord) where
+  given : inputItem table r f ≡ 0
+  given = start-passed table r f work passes .0
+
+  begun : Running table r f (j₀ .total) 0 (startOf j₀ table r f work .job) work
   unfolding started
   begun =
-      let e = ap (λ o. o .job) (start-accepted j table r f work passes) in
+      let e = ap (λ o. o .job) (start-accepted j₀ table r f work passes) in
       record {
         active = ap (λ o. o .idle) e;
         recorded = ap (λ o. o .n) e;
@@ -81,41 +86,71 @@ module _ (table r f : List ℕ) (work : List ℤ) (passes : startItem table r f 
         here = ap (λ o. o .position) e;
         low = omega arith;
         total = λ t. ap (λ o. o .total) e ∙ omega arith;
-        filled = refl;
+        enough = start-passed table r f work passes .1;
+        front = refl;
       }
 
+  -- how far budgets that come to this sum reach
+  abbrev reached : ℕ → ℕ
+  reached sum = min sum (subproblems r f)
+
+  pub sliced-running : {sum : ℕ} {j : JobRecord} {left : List ℤ} → Sliced table r f j₀ work sum j left → Running table r f (j₀ .total) (reached sum) j left
+  sliced-running begins = subst (λ (k : ℕ). Running table r f (j₀ .total) k (startOf j₀ table r f work .job) work) (omega arith) begun
+  sliced-running (goes {sum} {j} {left} s b lent e) =
+      let step = running-step table r f given (j₀ .total) (running-lent table r f given (j₀ .total) (sliced-running s) lent e) b in
+      let far : reached sum + min b (subproblems r f - reached sum) ≡ reached (sum + b) = omega arith in
+      subst (λ (k : ℕ). Running table r f (j₀ .total) k (advanceOf j table r f b lent .job) (advanceWork j table r f b lent)) far step
+
+  module _ {sum : ℕ} {j : JobRecord} {left : List ℤ} (s : Sliced table r f j₀ work sum j left) (lent : List ℤ) (same : take (subproblems r f) lent ≡ take (subproblems r f) left) where
+    running : Running table r f (j₀ .total) (reached sum) j lent
+    running = running-lent table r f given (j₀ .total) (sliced-running s) lent same
+
+    -- every advance is accepted, counts the smaller of its budget and what is left, and fills exactly those numbers of the list lent, with the values:
+    -- those before are the values already, and those behind stay
+    pub lent-slice : (b : ℕ) →
+        (advanceItem j table r f lent ≡ 0)
+        × (advanceOf j table r f b lent .answer ≡ Advanced (min b (subproblems r f - reached sum)))
+        × (take (reached sum) lent ≡ take (reached sum) (values table r f))
+        × (advanceWork j table r f b lent ≡ take (reached sum + min b (subproblems r f - reached sum)) (values table r f) ++ drop (reached sum + min b (subproblems r f - reached sum)) lent)
+    lent-slice b = (running-item table r f given (j₀ .total) running, running-counts table r f given (j₀ .total) running b, running .front, running-fills table r f given (j₀ .total) running b)
+
+    -- where the budgets reach the number of subproblems, finishing is accepted and gives a heaviest mapping and the answer
+    pub lent-job : subproblems r f ≤ sum → (mapping : List ℕ) → count r ≤ length mapping →
+        (finishItem j table r f lent mapping ≡ 0)
+        × (take (subproblems r f) lent ≡ values table r f)
+        × ((mapping′ : List ℕ) (a : MatchAnswer) → FinishCall j table r f lent mapping mapping′ a → Heaviest table r f (take (count r) mapping′) × (a ≡ Found (answer table r f)))
+    lent-job l mapping room =
+        let all : reached sum ≡ subproblems r f = omega arith in
+        let e = running-finish table r f given (j₀ .total) running all mapping room in
+        let v = running-values table r f given (j₀ .total) running all in
+        (e, v, λ mapping′ a call. (call .finished e .heaviest v, call .finished e .answered v))
+
+  -- ---- where each call is lent the very list that the last one left
+
   abbrev after : List ℕ → JobRecord
-  after bs = jobAfter table r f (startOf j table r f work .job) work bs
+  after bs = jobAfter table r f (startOf j₀ table r f work .job) work bs
 
   abbrev left : List ℕ → List ℤ
-  left bs = workAfter table r f (startOf j table r f work .job) work bs
+  left bs = workAfter table r f (startOf j₀ table r f work .job) work bs
 
-  -- how far the advances of these budgets come
-  abbrev reached : List ℕ → ℕ
-  reached bs = min (together bs) (subproblems r f)
+  chain : (bs : List ℕ) → Sliced table r f j₀ work (together bs) (after bs) (left bs)
+  chain bs = subst (λ (k : ℕ). Sliced table r f j₀ work k (after bs) (left bs)) (zero-add (together bs)) (sliced-same bs begins)
 
-  pub sliced-running : (bs : List ℕ) → Running table r f work (j .total) (reached bs) (after bs) (left bs)
-  sliced-running bs = rw zero-add at (running-all table r f (start-passed table r f work passes .0) work (start-passed table r f work passes .1) (j .total) bs begun)
-
-  -- every advance is accepted, counts the smaller of its budget and what is left, and fills exactly those work numbers, with the values
+  -- what the list holds behind the values is what it held at the start
   pub each-slice : (bs : List ℕ) (b : ℕ) →
       (advanceItem (after bs) table r f (left bs) ≡ 0)
-      × (advanceOf (after bs) table r f b (left bs) .answer ≡ Advanced (min b (subproblems r f - reached bs)))
-      × (left bs ≡ take (reached bs) (values table r f) ++ drop (reached bs) work)
-      × (advanceWork (after bs) table r f b (left bs) ≡ take (reached bs + min b (subproblems r f - reached bs)) (values table r f) ++ drop (reached bs + min b (subproblems r f - reached bs)) work)
+      × (advanceOf (after bs) table r f b (left bs) .answer ≡ Advanced (min b (subproblems r f - reached (together bs))))
+      × (left bs ≡ take (reached (together bs)) (values table r f) ++ drop (reached (together bs)) work)
+      × (advanceWork (after bs) table r f b (left bs) ≡ take (reached (together bs) + min b (subproblems r f - reached (together bs))) (values table r f) ++ drop (reached (together bs) + min b (subproblems r f - reached (together bs))) work)
   each-slice bs b =
-      let p = start-passed table r f work passes in
-      let R = sliced-running bs in
-      (running-item table r f (p .0) work (p .1) (j .total) R, running-counts table r f (p .0) work (p .1) (j .total) R b, R .filled, running-step table r f (p .0) work (p .1) (j .total) R b .filled)
+      let p = reached (together bs) in
+      let c = min b (subproblems r f - p) in
+      let t = lent-slice (chain bs) (left bs) refl b in
+      let far : min (0 + together bs) (subproblems r f) ≡ p = omega arith in
+      let is : left bs ≡ take p (values table r f) ++ drop p work = rest-same table r f given (j₀ .total) bs begun ∙ ap (λ (k : ℕ). take k (values table r f) ++ drop k work) far in
+      (t .0, t .1, is, t .3 ∙ ap (λ (w : List ℤ). take (p + c) (values table r f) ++ w) (behind table r f given (j₀ .total) p c (left bs) work (omega arith) is))
 
-  -- where the budgets reach the number of subproblems, finishing is accepted and gives a heaviest mapping and the answer
   pub sliced-job : (bs : List ℕ) → subproblems r f ≤ together bs → (mapping : List ℕ) → count r ≤ length mapping →
       (finishItem (after bs) table r f (left bs) mapping ≡ 0)
       × ((mapping′ : List ℕ) (a : MatchAnswer) → FinishCall (after bs) table r f (left bs) mapping mapping′ a → Heaviest table r f (take (count r) mapping′) × (a ≡ Found (answer table r f)))
-  sliced-job bs l mapping room =
-      let p = start-passed table r f work passes in
-      let R = sliced-running bs in
-      let all : reached bs ≡ subproblems r f = omega arith in
-      let e = running-finish table r f (p .0) work (p .1) (j .total) R all mapping room in
-      let v = running-values table r f (p .0) work (p .1) (j .total) R all in
-      (e, λ mapping′ a call. (call .finished e .heaviest v, call .finished e .answered v))
+  sliced-job bs l mapping room = let t = lent-job (chain bs) (left bs) refl l mapping room in (t .0, t .2)

@@ -1,13 +1,13 @@
 //! The end of a job: a mapping read out of the work numbers, and its exact weight.
 use formats::tree::vertex_count;
+use mappings::weigh::weigh;
 use one_call::top::largest;
 use readout::cycle::clear;
 use readout::cycle::read_out;
-use readout::weigh::weigh;
 ghost use Prim.Native.Nat.{_≤_};
 ghost use lib.ListN.{length};
 ghost use Rattle.model.specs.Tree.{count};
-ghost use Rattle.solver.specs.Plan.{Known, Lent};
+ghost use Rattle.plan.specs.Plan.{Ready, Lent};
 ghost use Rattle.readout.specs.Read.{WorkFits};
 ghost use Rattle.jobs.specs.Delivery.{Delivered};
 
@@ -16,44 +16,23 @@ pub fn deliver(
     table: &[u8],
     recorded: &[u8],
     found: &[u8],
-    weights: &[i32; 64],
-    rnear: &[[u8; 8]; 64],
-    rlabels: &[[u8; 8]; 64],
-    fnear: &[[u8; 8]; 64],
-    flabels: &[[u8; 8]; 64],
-    place: &[u8; 64],
-    starts: &[usize; 65],
+    plan: &[[u8; 8]; 512],
     work: &[i32],
     mapping: &mut [u8],
 ) -> i32
-    requires { ⌜ Known (now table) (now recorded) (now found) (now weights) (now rnear) (now rlabels) (now fnear) (now flabels) (now place) (now starts) ⌝ }
+    requires { ⌜ Ready (now table) (now recorded) (now found) (now plan) ⌝ }
     requires { ⌜ Lent (now recorded) (now found) (now work) ⌝ }
     requires { ⌜ WorkFits (now table) (now recorded) (now found) (now work) ⌝ }
     requires { ⌜ count (now recorded) ≤ length (now mapping) ⌝ }
     ensures { λ r. ⌜ Delivered (now (table .entry)) (now (recorded .entry)) (now (found .entry)) (now (work .entry)) (now (mapping .entry)) (now (mapping .exit)) r ⌝ }
 {
-    let t = largest(work, place, starts, recorded, found);
+    let t = largest(work, plan, recorded, found);
     if t.weight == 0 {
         clear(mapping, vertex_count(recorded));
         return 0;
     }
     let u = t.u;
     let v = t.v;
-    read_out(
-        table,
-        recorded,
-        found,
-        weights,
-        rnear,
-        rlabels,
-        fnear,
-        flabels,
-        place,
-        starts,
-        work,
-        u,
-        v,
-        mapping,
-    );
-    weigh(table, recorded, found, weights, fnear, flabels, mapping)
+    read_out(table, recorded, found, plan, work, u, v, mapping);
+    weigh(table, recorded, found, plan, mapping)
 }

@@ -1,5 +1,5 @@
-//! A job in slices: start, advance and finish (paper 01, "Jobs"). The record is lent to start and to advance, thin functions over cores that take
-//! it by value; library code calls the cores.
+//! A job in slices: start, advance and finish (paper 01, "Jobs"), over the record by value. The calls that are lent the record are thin functions over
+//! these: crates/exports, job_calls.
 pub mod delivery;
 pub mod slices;
 
@@ -7,8 +7,6 @@ use crate::delivery::deliver;
 use crate::slices::begun;
 use crate::slices::moved;
 use crate::slices::slice_of;
-use formats::neighbours::edge_label_table;
-use formats::neighbours::neighbour_table;
 use formats::tree::vertex_count;
 use job_items::early_item;
 use job_items::is_left;
@@ -20,17 +18,14 @@ use model::JobRecord;
 use model::MatchAnswer;
 use model::StartAnswer;
 use model::StartOutcome;
+use plan::make::make;
 use solver::fill::fill;
-use solver::plan::edge_weights;
-use solver::plan::starts;
-use trees::places;
-use trees::postorder;
 ghost use mathlib.Core.Path.{_≡_};
 ghost use Rattle.model.specs.Jobs.{startOf, advanceOf, advanceWork, finishItem, FinishCall};
-ghost use Rattle.solver.specs.Plan.{Ready};
+ghost use Rattle.plan.specs.Plan.{Ready};
 ghost use Rattle.job_items.specs.Items.{earlyItem};
-ghost use Rattle.job_items.specs.Work.{Scanned};
 
+// Entry point.
 // A start of the record by value: the record after the call beside the answer.
 pub fn start_core(
     job: JobRecord,
@@ -54,54 +49,23 @@ pub fn start_core(
     }
 }
 
-// Starts the job of the lent record, also over an earlier job.
-pub fn start(
-    job: &mut JobRecord,
-    table: &[u8],
-    recorded: &[u8],
-    found: &[u8],
-    work: &[i32],
-) -> StartAnswer
-    ensures { λ r. ⌜ (now (job .exit) ≡ startOf (now (job .entry)) (now (table .entry)) (now (recorded .entry)) (now (found .entry)) (now (work .entry)) .job)
-        × (r ≡ startOf (now (job .entry)) (now (table .entry)) (now (recorded .entry)) (now (found .entry)) (now (work .entry)) .answer) ⌝ }
-{
-    let out = start_core(*job, table, recorded, found, work);
-    *job = out.job;
-    out.answer
-}
-
-// An advance with all that was read; of its items only 16 is not tested yet.
+// An advance over the plan; of its items only 16 is not tested yet.
 fn advance_ready(
     job: JobRecord,
     table: &[u8],
     recorded: &[u8],
     found: &[u8],
-    weights: &[i32; 64],
-    rnear: &[[u8; 8]; 64],
-    rlabels: &[[u8; 8]; 64],
-    fnear: &[[u8; 8]; 64],
-    flabels: &[[u8; 8]; 64],
-    order: &[u8; 64],
-    place: &[u8; 64],
-    starts: &[usize; 65],
+    plan: &[[u8; 8]; 512],
     budget: u32,
     work: &mut [i32],
 ) -> AdvanceOutcome
-    requires { ⌜ Ready (now table) (now recorded) (now found) (now weights) (now rnear) (now rlabels) (now fnear) (now flabels) (now order) (now place) (now starts) ⌝ }
+    requires { ⌜ Ready (now table) (now recorded) (now found) (now plan) ⌝ }
     requires { ⌜ earlyItem job (now table) (now recorded) (now found) (now work) ≡ 0 ⌝ }
     ensures { λ r. ⌜ (r ≡ advanceOf job (now (table .entry)) (now (recorded .entry)) (now (found .entry)) budget (now (work .entry)))
         × (now (work .exit) ≡ advanceWork job (now (table .entry)) (now (recorded .entry)) (now (found .entry)) budget (now (work .entry))) ⌝ }
 {
     let position = job.position;
-    let fine = work_ok(
-        table,
-        recorded,
-        found,
-        order,
-        starts,
-        work,
-        position as usize,
-    );
+    let fine = work_ok(table, recorded, found, plan, work, position as usize);
     if !fine {
         return AdvanceOutcome {
             job,
@@ -113,14 +77,7 @@ fn advance_ready(
         table,
         recorded,
         found,
-        weights,
-        rnear,
-        rlabels,
-        fnear,
-        flabels,
-        order,
-        place,
-        starts,
+        plan,
         work,
         position as usize,
         count as usize,
@@ -131,6 +88,7 @@ fn advance_ready(
     }
 }
 
+// Entry point.
 // An advance of the record by value: the record after the call beside the answer. The work numbers are lent.
 pub fn advance_core(
     job: JobRecord,
@@ -150,49 +108,8 @@ pub fn advance_core(
             answer: AdvanceAnswer::Refused(item),
         };
     }
-    let weights = edge_weights(table);
-    let rnear = neighbour_table(recorded);
-    let rlabels = edge_label_table(recorded, &rnear);
-    let fnear = neighbour_table(found);
-    let flabels = edge_label_table(found, &fnear);
-    let o = postorder(&rnear);
-    let order = o.at;
-    let place = places(o);
-    let begins = starts(found, &fnear);
-    advance_ready(
-        job,
-        table,
-        recorded,
-        found,
-        &weights,
-        &rnear,
-        &rlabels,
-        &fnear,
-        &flabels,
-        &order,
-        &place,
-        &begins,
-        budget,
-        work,
-    )
-}
-
-// Advances the job of the lent record: solves the smaller of the budget and what is left.
-pub fn advance(
-    job: &mut JobRecord,
-    table: &[u8],
-    recorded: &[u8],
-    found: &[u8],
-    budget: u32,
-    work: &mut [i32],
-) -> AdvanceAnswer
-    ensures { λ r. ⌜ ((now (job .exit) ≡ advanceOf (now (job .entry)) (now (table .entry)) (now (recorded .entry)) (now (found .entry)) budget (now (work .entry)) .job)
-        × (r ≡ advanceOf (now (job .entry)) (now (table .entry)) (now (recorded .entry)) (now (found .entry)) budget (now (work .entry)) .answer))
-        × (now (work .exit) ≡ advanceWork (now (job .entry)) (now (table .entry)) (now (recorded .entry)) (now (found .entry)) budget (now (work .entry))) ⌝ }
-{
-    let out = advance_core(*job, table, recorded, found, budget, work);
-    *job = out.job;
-    out.answer
+    let plan = make(recorded, found);
+    advance_ready(job, table, recorded, found, &plan, budget, work)
 }
 
 // The first of a finish's items 16 to 18 that applies, 0 for none, where none before applies.
@@ -201,24 +118,15 @@ fn late_item(
     table: &[u8],
     recorded: &[u8],
     found: &[u8],
-    order: &[u8; 64],
-    starts: &[usize; 65],
+    plan: &[[u8; 8]; 512],
     work: &[i32],
     mapping: &[u8],
 ) -> u8
-    requires { ⌜ Scanned (now table) (now recorded) (now found) (now order) (now starts) ⌝ }
+    requires { ⌜ Ready (now table) (now recorded) (now found) (now plan) ⌝ }
     requires { ⌜ earlyItem job (now table) (now recorded) (now found) (now work) ≡ 0 ⌝ }
     ensures { λ r. ⌜ r ≡ finishItem job (now (table .entry)) (now (recorded .entry)) (now (found .entry)) (now (work .entry)) (now (mapping .entry)) ⌝ }
 {
-    let fine = work_ok(
-        table,
-        recorded,
-        found,
-        order,
-        starts,
-        work,
-        job.position as usize,
-    );
+    let fine = work_ok(table, recorded, found, plan, work, job.position as usize);
     if !fine {
         return 16;
     }
@@ -232,48 +140,29 @@ fn late_item(
     0
 }
 
-// A finish with all that was read; of its items only 16 to 18 are not tested yet.
+// A finish over the plan; of its items only 16 to 18 are not tested yet.
 fn finish_ready(
     job: JobRecord,
     table: &[u8],
     recorded: &[u8],
     found: &[u8],
-    weights: &[i32; 64],
-    rnear: &[[u8; 8]; 64],
-    rlabels: &[[u8; 8]; 64],
-    fnear: &[[u8; 8]; 64],
-    flabels: &[[u8; 8]; 64],
-    order: &[u8; 64],
-    place: &[u8; 64],
-    starts: &[usize; 65],
+    plan: &[[u8; 8]; 512],
     work: &[i32],
     mapping: &mut [u8],
 ) -> MatchAnswer
-    requires { ⌜ Ready (now table) (now recorded) (now found) (now weights) (now rnear) (now rlabels) (now fnear) (now flabels) (now order) (now place) (now starts) ⌝ }
+    requires { ⌜ Ready (now table) (now recorded) (now found) (now plan) ⌝ }
     requires { ⌜ earlyItem job (now table) (now recorded) (now found) (now work) ≡ 0 ⌝ }
     ensures { λ r. ⌜ FinishCall job (now (table .entry)) (now (recorded .entry)) (now (found .entry)) (now (work .entry)) (now (mapping .entry)) (now (mapping .exit)) r ⌝ }
 {
-    let item = late_item(job, table, recorded, found, order, starts, work, mapping);
+    let item = late_item(job, table, recorded, found, plan, work, mapping);
     if item != 0 {
         return MatchAnswer::Refused(item);
     }
-    let w = deliver(
-        table,
-        recorded,
-        found,
-        weights,
-        rnear,
-        rlabels,
-        fnear,
-        flabels,
-        place,
-        starts,
-        work,
-        mapping,
-    );
+    let w = deliver(table, recorded, found, plan, work, mapping);
     MatchAnswer::Found(w)
 }
 
+// Entry point.
 // Finishes a job: a mapping in the first n bytes and its exact weight, a heaviest one over undisturbed memory. The record and the work numbers are
 // only read.
 pub fn finish(
@@ -290,29 +179,6 @@ pub fn finish(
     if item != 0 {
         return MatchAnswer::Refused(item);
     }
-    let weights = edge_weights(table);
-    let rnear = neighbour_table(recorded);
-    let rlabels = edge_label_table(recorded, &rnear);
-    let fnear = neighbour_table(found);
-    let flabels = edge_label_table(found, &fnear);
-    let o = postorder(&rnear);
-    let order = o.at;
-    let place = places(o);
-    let begins = starts(found, &fnear);
-    finish_ready(
-        job,
-        table,
-        recorded,
-        found,
-        &weights,
-        &rnear,
-        &rlabels,
-        &fnear,
-        &flabels,
-        &order,
-        &place,
-        &begins,
-        work,
-        mapping,
-    )
+    let plan = make(recorded, found);
+    finish_ready(job, table, recorded, found, &plan, work, mapping)
 }

@@ -1,38 +1,24 @@
-//! The numbers of a slice: how many subproblems there are, how many an advance solves, and the record after it.
+//! The numbers of a slice: how many subproblems an advance solves, and the record after it.
 use formats::bytes::byte_or_zero;
-use formats::tree::vertex_count;
 use model::JobRecord;
-use solver::subproblem::width_of;
+use plan::counts::lesser;
+use plan::counts::subproblem_count;
 ghost use Prim.Native.Nat.{_+_, _-_, _≤_, min};
 ghost use mathlib.Core.Path.{_≡_};
+ghost use Rattle.model.specs.Limits.{subproblemLimit};
 ghost use Rattle.model.specs.Order.{subproblems};
 ghost use Rattle.model.specs.Jobs.{started, advanced, totalLimit};
 ghost use Rattle.trees.specs.Accepted.{Sound};
-
-// The number of subproblems.
-fn count_of(recorded: &[u8], found: &[u8]) -> usize
-    requires { ⌜ Sound (now recorded) ⌝ }
-    requires { ⌜ Sound (now found) ⌝ }
-    ensures { λ r. ⌜ (r ≡ subproblems (now (recorded .entry)) (now (found .entry))) × (r ≤ 12160) ⌝ }
-{
-    vertex_count(recorded) * width_of(found)
-}
-
-fn smaller(a: u32, b: u32) -> u32
-    ensures { λ r. ⌜ r ≡ min a b ⌝ }
-{
-    if a <= b { a } else { b }
-}
 
 // The smaller of the budget and what is left.
 pub fn slice_of(recorded: &[u8], found: &[u8], position: u32, budget: u32) -> u32
     requires { ⌜ Sound (now recorded) ⌝ }
     requires { ⌜ Sound (now found) ⌝ }
     requires { ⌜ position ≤ subproblems (now recorded) (now found) ⌝ }
-    ensures { λ r. ⌜ (r ≡ min budget (subproblems (now (recorded .entry)) (now (found .entry)) - position)) × (position + r ≤ 12160) ⌝ }
+    ensures { λ r. ⌜ (r ≡ min budget (subproblems (now (recorded .entry)) (now (found .entry)) - position)) × (position + r ≤ subproblemLimit) ⌝ }
 {
-    let all = count_of(recorded, found);
-    smaller(budget, (all as u32) - position)
+    let all = subproblem_count(recorded, found);
+    lesser(budget as usize, all - (position as usize)) as u32
 }
 
 // The record of a job that begins.
@@ -63,7 +49,7 @@ fn total_after(total: u32, count: u32) -> u32
 
 // The record after so many subproblems.
 pub fn moved(job: JobRecord, count: u32) -> JobRecord
-    requires { ⌜ job .position + count ≤ 12160 ⌝ }
+    requires { ⌜ job .position + count ≤ subproblemLimit ⌝ }
     ensures { λ r. ⌜ r ≡ advanced job count ⌝ }
 {
     let total = total_after(job.total, count);

@@ -1,7 +1,7 @@
 -- Bytes, marks, and signed 32-bit numbers in them. Paper 01, "Bytes of a table and a layout".
 -- A list of bytes is total: past its end stand zeros, and no mark has a zero.
 use Prim.Native.Nat.{ℕ, _+_, _*_, _-_, _/_, _%_}
-use mathlib.Core.Bool.{Bool, true, false, cond, _&&_}
+use mathlib.Core.Bool.{Bool, cond, _&&_}
 use mathlib.Core.List.{List, [], _∷_}
 use lib.ListN.{getD, set}
 use lib.Dec.{ltb, eqb}

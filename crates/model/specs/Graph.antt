@@ -1,8 +1,8 @@
 -- A tree as a graph: which vertices are joined, neighbours in eight places, the edge between two vertices.
 -- Paper 01, "Bytes of a table and a layout" (lines, neighbours).
-use mathlib.Core.List.{List, [], _∷_}
-use Prim.Native.Nat.{ℕ, zero, suc, _+_, _*_, _-_}
-use mathlib.Core.Bool.{Bool, true, false, _&&_, _||_, cond, not}
+use mathlib.Core.List.{List}
+use Prim.Native.Nat.{ℕ, zero, suc, _-_}
+use mathlib.Core.Bool.{Bool, false, _&&_, _||_, cond}
 use lib.ListN.{getD}
 use lib.Dec.{eqb}
 use Rattle.foundations.specs.Lists.{tab, below, places}

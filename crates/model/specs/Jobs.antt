@@ -2,10 +2,10 @@
 -- turned down".
 use mathlib.Core.Path.{_≡_}
 use mathlib.Core.Logic.{_≢_}
-use mathlib.Core.Bool.{Bool, true, false, not, _&&_, _||_, cond}
+use mathlib.Core.Bool.{Bool, true, false, not, _&&_, cond}
 use mathlib.Core.List.{List, [], _∷_, _++_}
 use Prim.Native.Nat.{ℕ, _+_, _*_, _-_, min}
-use lib.ListN.{length, getD, take, drop}
+use lib.ListN.{getD, take, drop}
 use lib.Dec.{eqb, ltb, leb}
 use lib.IntN.{ℤ, pos, negℤ}
 use lib.Signed.{leZ}
@@ -30,7 +30,7 @@ use Rattle.model.specs.Pairs.{vertexPair}
 use Rattle.model.specs.Mapping.{IsMapping, Heaviest, weight}
 use Rattle.model.specs.Values.{values, answer, fill}
 use Rattle.model.specs.Calls.{inputItems, workItem, mappingItem}
-use Rattle.model.specs.Match.{refusalOf, weightOf, TurnedDown}
+use Rattle.model.specs.Match.{refusalOf, weightOf, Refusal}
 
 -- ---- the record
 
@@ -123,7 +123,7 @@ advanceWork j table recorded found budget work =
     (fill table recorded found work (j .position) (slice j recorded found budget))
     work
 
--- the paper's number for each answer, 0 where the call is not turned down; and the count, 0 where it is. What `startOf` and `advanceOf` answer in
+-- the paper's number for each answer, 0 where the call is not refused; and the count, 0 where it is. What `startOf` and `advanceOf` answer in
 -- these numbers: `start-refusal`, `advance-refusal` and `advance-count` (crates/jobs)
 unfoldable pub startRefusal : StartAnswer → ℕ
 startRefusal Started = 0
@@ -151,5 +151,5 @@ pub record Finished (table recorded found : List ℕ) (work : List ℤ) (mapping
 
 -- the call: the record and the work numbers are only read
 pub record FinishCall (j : JobRecord) (table recorded found : List ℕ) (work : List ℤ) (mapping mapping′ : List ℕ) (a : MatchAnswer) : Type 0 where
-  pub refused : finishItem j table recorded found work mapping ≢ 0 → TurnedDown (finishItem j table recorded found work mapping) work mapping work mapping′ a
+  pub refused : finishItem j table recorded found work mapping ≢ 0 → Refusal (finishItem j table recorded found work mapping) work mapping work mapping′ a
   pub finished : finishItem j table recorded found work mapping ≡ 0 → Finished table recorded found work mapping mapping′ a

@@ -13,7 +13,6 @@ pub mod Calls
 pub mod Input
 pub mod Mapping
 pub mod Values
-pub mod Readout
 pub mod Duals
 pub mod Match
 pub mod Jobs

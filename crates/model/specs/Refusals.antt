@@ -1,6 +1,6 @@
--- A call is turned down by the first of its items that applies. Paper 01, "Why a call is turned down".
-use Prim.Native.Nat.{ℕ, _+_}
-use mathlib.Core.Bool.{Bool, true, false, cond}
+-- A call is refused by the first of its items that applies. Paper 01, "Why a call is turned down".
+use Prim.Native.Nat.{ℕ}
+use mathlib.Core.Bool.{Bool, cond}
 use mathlib.Core.List.{List, [], _∷_}
 
 -- an item: its number, and whether it applies

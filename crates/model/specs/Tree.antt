@@ -1,7 +1,7 @@
 -- A tree's bytes: head, labels, edges, and the items 3 to 7 (8 to 12 for the found tree). The paper's layout; its devices are vertices, lines edges, kinds labels.
 use mathlib.Core.List.{List, [], _∷_}
 use Prim.Native.Nat.{ℕ, zero, suc, _+_, _*_, _-_}
-use mathlib.Core.Bool.{Bool, true, false, _&&_, _||_, cond, not}
+use mathlib.Core.Bool.{Bool, _&&_, _||_, cond, not}
 use lib.ListN.{length}
 use lib.Dec.{eqb, ltb, leb}
 use Rattle.foundations.specs.Lists.{every}

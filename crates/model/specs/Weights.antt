@@ -1,7 +1,6 @@
 -- A weight is forbidden or a number, so that nothing is ever added to the forbidden number. Paper 01, "Bytes of a table and a layout" and "The mapping".
 use Prim.Native.Nat.{ℕ, _≤_}
-use mathlib.Core.Path.{_≡_}
-use mathlib.Core.Bool.{Bool, true, false, cond, _&&_, _||_}
+use mathlib.Core.Bool.{Bool, false, cond, _&&_, _||_}
 use lib.Dec.{eqb}
 use lib.IntN.{ℤ, pos, negsuc, _+ℤ_, negℤ}
 use lib.Signed.{leZ, ltZ, _≤ℤ_}

@@ -27,7 +27,7 @@ writeItems table recorded found work certificate = inputItems table recorded fou
 unfoldable pub writeItem : List ℕ → List ℕ → List ℕ → List ℤ → List ℕ → ℕ
 writeItem table recorded found work certificate = firstOf (writeItems table recorded found work certificate)
 
--- the paper's number for each case of the answer, 0 where the call is not turned down; and the certificate's length, 0 where it is
+-- the paper's number for each case of the answer, 0 where the call is not refused; and the certificate's length, 0 where it is
 unfoldable pub writeRefusal : WriteAnswer → ℕ
 writeRefusal (Written l) = 0
 writeRefusal (Refused k) = k
@@ -36,7 +36,7 @@ unfoldable pub lengthOf : WriteAnswer → ℕ
 lengthOf (Written l) = l
 lengthOf (Refused k) = 0
 
--- Not turned down: all values in order and the rest of the work numbers as it was; in the front of the buffer a certificate that the check accepts, with
+-- Not refused: all values in order and the rest of the work numbers as it was; in the front of the buffer a certificate that the check accepts, with
 -- a heaviest mapping, its weight and the value of each subproblem, and the rest of the buffer as it was; its length. Which heaviest mapping and which
 -- duals is the program's choice.
 pub record CertificateLeft (table recorded found : List ℕ) (work : List ℤ) (certificate : List ℕ) (work′ : List ℤ) (certificate′ : List ℕ) (a : WriteAnswer) : Type 0 where
@@ -50,8 +50,8 @@ pub record CertificateLeft (table recorded found : List ℕ) (work : List ℤ) (
   pub number : writeRefusal a ≡ 0
   pub measures : lengthOf a ≡ certificateLength recorded found
 
--- Turned down: the number of the first item that applies, and nothing changed.
-pub record WritingTurnedDown (refusal : ℕ) (work : List ℤ) (certificate : List ℕ) (work′ : List ℤ) (certificate′ : List ℕ) (a : WriteAnswer) : Type 0 where
+-- Refused: the number of the first item that applies, and nothing changed.
+pub record WritingRefusal (refusal : ℕ) (work : List ℤ) (certificate : List ℕ) (work′ : List ℤ) (certificate′ : List ℕ) (a : WriteAnswer) : Type 0 where
   pub given : a ≡ Refused refusal
   pub number : writeRefusal a ≡ refusal
   pub measures : lengthOf a ≡ 0
@@ -60,5 +60,5 @@ pub record WritingTurnedDown (refusal : ℕ) (work : List ℤ) (certificate : Li
 
 -- the call: from what is lent at entry to what is there at exit, with the answer
 pub record WriteCall (table recorded found : List ℕ) (work : List ℤ) (certificate : List ℕ) (work′ : List ℤ) (certificate′ : List ℕ) (a : WriteAnswer) : Type 0 where
-  pub refused : writeItem table recorded found work certificate ≢ 0 → WritingTurnedDown (writeItem table recorded found work certificate) work certificate work′ certificate′ a
+  pub refused : writeItem table recorded found work certificate ≢ 0 → WritingRefusal (writeItem table recorded found work certificate) work certificate work′ certificate′ a
   pub written : writeItem table recorded found work certificate ≡ 0 → CertificateLeft table recorded found work certificate work′ certificate′ a

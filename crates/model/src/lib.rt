@@ -1,9 +1,11 @@
 //! The public constants and answers of the library. What the bytes, items and orders of paper 01 mean is in specs/, as definitions.
 
 ghost use mathlib.Core.Path.{_≡_};
-ghost use Rattle.model.specs.Jobs.{freshRecord};
+ghost use lib.IntN.{pos};
+ghost use Rattle.model.specs.Jobs.{freshRecord, totalLimit};
+ghost use Rattle.model.specs.Limits.{weightLimit, forbidden, ceiling, vertexLabelLimit, edgeLabelLimit, vertexLimit, degreeLimit, noVertex};
 
-// The numbers that the paper fixes. The definitions have the same in specs/Limits.antt.
+// The numbers that the paper fixes. The definitions have the same in specs/Limits.antt (`weights` and `sizes` below).
 pub struct Limits {}
 
 impl Limits {
@@ -21,6 +23,10 @@ impl Limits {
     pub const VERTICES: u8 = 64;
 
     pub const DEGREE: u8 = 8;
+    // The same two as lengths: a table of neighbours has ROWS rows of PLACES places.
+    pub const ROWS: usize = Limits::VERTICES as usize;
+
+    pub const PLACES: usize = Limits::DEGREE as usize;
     // What stands where there is no vertex: in a free place, and for a vertex without partner.
     pub const NONE: u8 = 255;
 }
@@ -39,6 +45,7 @@ impl JobRecord {
     // The total stops here.
     pub const TOTAL: u32 = 4294967295;
 
+    // Entry point.
     // A record of no job.
     pub fn fresh() -> JobRecord
         ensures { λ r. ⌜ r ≡ freshRecord ⌝ }
@@ -76,14 +83,30 @@ pub struct AdvanceOutcome {
     pub answer: AdvanceAnswer,
 }
 
-// The answer of a match: the weight of the mapping, or the number of the item that turned the call down.
+// The answer of a match: the weight of the mapping, or the number of the item that refused the call.
 pub enum MatchAnswer {
     Found(i32),
     Refused(u8),
 }
 
-// The answer of writing a certificate: its length in bytes, or the number of the item that turned the call down.
+// The answer of writing a certificate: its length in bytes, or the number of the item that refused the call.
 pub enum WriteAnswer {
     Written(u32),
     Refused(u8),
 }
+
+// Each constant is the number of the definitions: a change of one side alone is refused here.
+fn weights()
+    ensures { λ _. do ⌜ (← ⟦Limits::WEIGHT⟧ .exit) ≡ pos weightLimit ⌝ }
+    ensures { λ _. do ⌜ (← ⟦Limits::FORBIDDEN⟧ .exit) ≡ forbidden ⌝ }
+    ensures { λ _. do ⌜ (← ⟦Limits::CEILING⟧ .exit) ≡ pos ceiling ⌝ }
+    ensures { λ _. do ⌜ (← ⟦JobRecord::TOTAL⟧ .exit) ≡ totalLimit ⌝ }
+{}
+
+fn sizes()
+    ensures { λ _. do ⌜ (← ⟦Limits::VERTEX_LABELS⟧ .exit) ≡ vertexLabelLimit ⌝ }
+    ensures { λ _. do ⌜ (← ⟦Limits::EDGE_LABELS⟧ .exit) ≡ edgeLabelLimit ⌝ }
+    ensures { λ _. do ⌜ (← ⟦Limits::VERTICES⟧ .exit) ≡ vertexLimit ⌝ }
+    ensures { λ _. do ⌜ (← ⟦Limits::DEGREE⟧ .exit) ≡ degreeLimit ⌝ }
+    ensures { λ _. do ⌜ (← ⟦Limits::NONE⟧ .exit) ≡ noVertex ⌝ }
+{}

@@ -5,7 +5,7 @@ use mathlib.Core.Logic.{_≢_, _↔_, ⊎-elim}
 use mathlib.Core.List.{List}
 use Prim.Native.Nat.{ℕ}
 use lib.ListN.{take}
-use lib.IntN.{ℤ}
+use lib.IntN.{ℤ, pos}
 use Rattle.foundations.specs.Tests.{same?}
 use Rattle.model.specs.declared.MatchAnswer.{MatchAnswer}
 use Rattle.model.specs.declared.MatchAnswer.the-variants.{Found, Refused}
@@ -17,6 +17,10 @@ use Rattle.model.specs.Match.{refusalOf, weightOf, MatchCall}
 pub refused-number : {a : MatchAnswer} {k : ℕ} → a ≡ Refused k → refusalOf a ≡ k
 unfolding refusalOf
 refused-number e = ap refusalOf e
+
+pub refused-weight : {a : MatchAnswer} {k : ℕ} → a ≡ Refused k → weightOf a ≡ pos 0
+unfolding weightOf
+refused-weight e = ap weightOf e
 
 pub found-number : {a : MatchAnswer} {w : ℤ} → a ≡ Found w → refusalOf a ≡ 0
 unfolding refusalOf

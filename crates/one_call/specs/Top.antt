@@ -14,6 +14,7 @@ use Rattle.foundations.specs.Tests.{same?}
 use Rattle.foundations.specs.Int.{up, int, canon}
 use Rattle.foundations.specs.Members.{mem, mem-here, mem-below, below-mem, place}
 use Rattle.model.specs.Weights.{Weight, none, some, weighed, isForbidden, _⊑_}
+use Rattle.model.specs.Limits.{vertexLimit, widthLimit}
 use Rattle.model.specs.Tree.{count}
 use Rattle.model.specs.Graph.{neighbours}
 use Rattle.model.specs.Order.{position, width, offset, slot, index, subproblems}
@@ -21,6 +22,7 @@ use Rattle.trees.specs.Accepted.{Sound}
 use Rattle.trees.specs.Positions.{position-low, offset-up, offset-all, index-low}
 use Rattle.model.specs.Mapping.{num}
 use Rattle.model.specs.Values.{greatest, vertices, largest, recalled}
+use Rattle.plan.specs.Plan.{placeIn, offsetIn, Planned}
 use Rattle.subtrees.specs.WeightLaws.{⊑-trans, ⊑-antisym, greatest-default, greatest-at, greatest-is}
 
 -- the number of (u, v, v)
@@ -43,17 +45,17 @@ weighed-up (pos n) h = refl
 weighed-up (negsuc n) h = absurd (omega arith)
 
 -- where the values of recorded vertex u stand, and that they are lent
-pub record RowAt (r f : List ℕ) (work : List ℤ) (starts : List ℕ) (base m u : ℕ) : Type 0 where
+pub record RowValues (r f : List ℕ) (work : List ℤ) (starts : ℕ → ℕ) (base m u : ℕ) : Type 0 where
   pub vertex : u < count r
-  pub few : m ≤ 64
+  pub few : m ≤ vertexLimit
   pub counted : m ≡ count f
   pub begins : base ≡ position r u * width f
-  pub small : base ≤ 64 * 190
-  pub offsets : (v : ℕ) → v < m → getD starts v 0 ≡ offset f v
+  pub small : base ≤ vertexLimit * widthLimit
+  pub offsets : (v : ℕ) → v < m → starts v ≡ offset f v
   pub lent : (v : ℕ) → v < m → base + offset f v < length work
-  pub near : (v : ℕ) → v < m → offset f v ≤ 190
+  pub narrow : (v : ℕ) → v < m → offset f v ≤ widthLimit
 
-pub row-number : {r f : List ℕ} {work : List ℤ} {starts : List ℕ} {base m u : ℕ} → RowAt r f work starts base m u → (v : ℕ) → v < m → base + getD starts v 0 ≡ index r f u v v
+pub row-number : {r f : List ℕ} {work : List ℤ} {starts : ℕ → ℕ} {base m u : ℕ} → RowValues r f work starts base m u → (v : ℕ) → v < m → base + starts v ≡ index r f u v v
 row-number {r} {f} {work} {starts} {base} {m} {u} a v l = rw (a .offsets v l, a .begins) (sym (index-own r f u v))
 
 -- one number compared: the greater, with its pair
@@ -155,48 +157,46 @@ module _ (r f : List ℕ) (work : List ℤ) where
 
 -- ---- all recorded vertices
 
--- two accepted trees, the places of the one's vertices, the offsets of the other's, and work numbers enough
-pub record AllAt (r f : List ℕ) (work : List ℤ) (places starts : List ℕ) : Type 0 where
+-- two accepted trees, their plan, and work numbers enough
+pub record AllAt (r f : List ℕ) (work : List ℤ) (plan : List (List ℕ)) : Type 0 where
   pub recorded : Sound r
   pub found : Sound f
-  pub placed : (u : ℕ) → u < count r → getD places u 0 ≡ position r u
-  pub offsets : (v : ℕ) → v ≤ count f → getD starts v 0 ≡ offset f v
+  pub planned : Planned r f plan
   pub enough : subproblems r f ≤ length work
 
+-- a vertex's place is low
+pub place-low : {r f : List ℕ} {work : List ℤ} {plan : List (List ℕ)} → AllAt r f work plan → (u : ℕ) → u < count r → placeIn plan u ≤ vertexLimit
+place-low {r} A u l =
+    let p = A .recorded .passed in
+    let few : count r ≤ vertexLimit = p .ends .few in
+    let e = A .planned .recorded u l .place in
+    let low : position r u < count r = position-low r (p .ends) (p .tree) u l in
+    omega arith
+
 -- where the values of u stand
-pub row-at : {r f : List ℕ} {work : List ℤ} {places starts : List ℕ} → AllAt r f work places starts → (u base m : ℕ) → u < count r → m ≡ count f → base ≡ getD places u 0 * getD starts m 0 → RowAt r f work starts base m u
+pub row-at : {r f : List ℕ} {work : List ℤ} {plan : List (List ℕ)} → AllAt r f work plan → (u base m : ℕ) → u < count r → m ≡ count f → base ≡ placeIn plan u * width f → RowValues r f work (offsetIn plan) base m u
 unfolding width
-row-at {r} {f} {work} {places} {starts} A u base m l e g =
+row-at {r} {f} {work} {plan} A u base m l e g =
     let er = A .recorded .passed .ends in
     let ef = A .found .passed .ends in
     let tr = A .recorded .passed .tree in
     let tf = A .found .passed .tree in
-    let nf : count r ≤ 64 = er .few in
-    let mf : count f ≤ 64 = ef .few in
-    let low : position r u < count r = position-low r er tr u l in
-    let w : getD starts m 0 ≡ width f = rw e (A .offsets (count f) (omega arith)) ∙ offset-all f ef tf in
-    let b : base ≡ position r u * width f = g ∙ rw (A .placed u l, w) in
-    let p : position r u ≤ 64 = omega arith in
-    let q : width f ≤ 190 = omega arith in
+    let mf : count f ≤ vertexLimit = ef .few in
+    let b : base ≡ position r u * width f = g ∙ rw (A .planned .recorded u l .place) in
+    let p = place-low A u l in
+    let q : width f ≤ widthLimit = omega arith in
     record {
       vertex = l;
       few = omega arith;
       counted = e;
       begins = b;
-      small = rw b (mul-le-mul p q);
-      offsets = λ v h. A .offsets v (omega arith);
+      small = rw g (mul-le-mul p q);
+      offsets = λ v h. A .planned .found v (omega arith) .begins;
       lent = λ v h.
           let lv : v < count f = omega arith in
           let i : index r f u v v < subproblems r f = index-low r f er tr ef tf u v v l lv (mem-here v (neighbours f v)) in
           let k : index r f u v v ≡ position r u * width f + offset f v = index-own r f u v in
           let enough : subproblems r f ≤ length work = A .enough in
           omega arith;
-      near = λ v h. let lv : v < count f = omega arith in let a = offset-up f v (count f) lv in let c : offset f (count f) ≡ width f = offset-all f ef tf in omega arith;
+      narrow = λ v h. let lv : v < count f = omega arith in let a = offset-up f v (count f) lv in let c : offset f (count f) ≡ width f = offset-all f ef tf in omega arith;
     }
-
-pub width-few : {r f : List ℕ} {work : List ℤ} {places starts : List ℕ} → AllAt r f work places starts → (m : ℕ) → m ≡ count f → getD starts m 0 ≤ 190
-unfolding width
-width-few {r} {f} {work} {places} {starts} A m e =
-    let mf : count f ≤ 64 = A .found .passed .ends .few in
-    let w : getD starts m 0 ≡ 3 * count f - 2 = rw e (A .offsets (count f) (omega arith)) ∙ offset-all f (A .found .passed .ends) (A .found .passed .tree) in
-    omega arith

@@ -2,41 +2,32 @@
 pub mod top;
 
 use crate::top::largest;
-use formats::inputs::input_item;
-use formats::neighbours::edge_label_table;
-use formats::neighbours::neighbour_table;
 use formats::tree::vertex_count;
+use job_items::start_item;
 use model::MatchAnswer;
+use plan::counts::subproblem_count;
+use plan::make::make;
 use readout::cycle::clear;
 use readout::cycle::read_out;
 use solver::fill::fill;
-use solver::plan::edge_weights;
-use solver::plan::starts;
-use trees::places;
-use trees::postorder;
-ghost use Prim.Native.Nat.{_≤_, _*_, _-_};
+ghost use Prim.Native.Nat.{_≤_, _-_};
 ghost use mathlib.Core.Path.{_≡_};
 ghost use lib.ListN.{length};
 ghost use Rattle.model.specs.Tree.{count};
 ghost use Rattle.model.specs.Calls.{matchItem};
 ghost use Rattle.model.specs.Match.{MatchCall};
-ghost use Rattle.solver.specs.Plan.{Ready, Lent};
+ghost use Rattle.plan.specs.Plan.{Ready, Lent};
 ghost use Rattle.one_call.specs.Call.{Solved};
 
 // The first of the items 1 to 13 and 18 that applies, 0 for none.
-pub fn match_item(table: &[u8], recorded: &[u8], found: &[u8], work: &[i32], mapping: &[u8]) -> u8
+fn match_item(table: &[u8], recorded: &[u8], found: &[u8], work: &[i32], mapping: &[u8]) -> u8
     ensures { λ r. ⌜ r ≡ matchItem (now (table .entry)) (now (recorded .entry)) (now (found .entry)) (now (work .entry)) (now (mapping .entry)) ⌝ }
 {
-    let i = input_item(table, recorded, found);
+    let i = start_item(table, recorded, found, work);
     if i != 0 {
         return i;
     }
-    let n = vertex_count(recorded);
-    let m = vertex_count(found);
-    if work.len() < n * (3 * m - 2) {
-        return 13;
-    }
-    if mapping.len() < n {
+    if mapping.len() < vertex_count(recorded) {
         return 18;
     }
     0
@@ -47,67 +38,30 @@ pub fn solve_and_read(
     table: &[u8],
     recorded: &[u8],
     found: &[u8],
-    weights: &[i32; 64],
-    rnear: &[[u8; 8]; 64],
-    rlabels: &[[u8; 8]; 64],
-    fnear: &[[u8; 8]; 64],
-    flabels: &[[u8; 8]; 64],
-    order: &[u8; 64],
-    place: &[u8; 64],
-    starts: &[usize; 65],
+    plan: &[[u8; 8]; 512],
     work: &mut [i32],
     mapping: &mut [u8],
 ) -> i32
-    requires { ⌜ Ready (now table) (now recorded) (now found) (now weights) (now rnear) (now rlabels) (now fnear) (now flabels) (now order) (now place) (now starts) ⌝ }
+    requires { ⌜ Ready (now table) (now recorded) (now found) (now plan) ⌝ }
     requires { ⌜ Lent (now recorded) (now found) (now work) ⌝ }
     requires { ⌜ count (now recorded) ≤ length (now mapping) ⌝ }
     ensures { λ r. ⌜ Solved (now (table .entry)) (now (recorded .entry)) (now (found .entry)) (now (work .entry)) (now (mapping .entry)) (now (work .exit)) (now (mapping .exit)) r ⌝ }
 {
-    let n = vertex_count(recorded);
-    let m = vertex_count(found);
-    fill(
-        table,
-        recorded,
-        found,
-        weights,
-        rnear,
-        rlabels,
-        fnear,
-        flabels,
-        order,
-        place,
-        starts,
-        work,
-        0,
-        n * (3 * m - 2),
-    );
-    let t = largest(work, place, starts, recorded, found);
+    let count = subproblem_count(recorded, found);
+    fill(table, recorded, found, plan, work, 0, count);
+    let t = largest(work, plan, recorded, found);
     let w = t.weight;
     if w == 0 {
-        clear(mapping, n);
+        clear(mapping, vertex_count(recorded));
         return 0;
     }
     let u = t.u;
     let v = t.v;
-    read_out(
-        table,
-        recorded,
-        found,
-        weights,
-        rnear,
-        rlabels,
-        fnear,
-        flabels,
-        place,
-        starts,
-        work,
-        u,
-        v,
-        mapping,
-    );
+    read_out(table, recorded, found, plan, work, u, v, mapping);
     w as i32
 }
 
+// Entry point.
 // A heaviest mapping of the two trees under the table, in the first n bytes of `mapping`; all values in order in `work`. Where an item
 // applies, nothing is written.
 pub fn match_trees(
@@ -123,29 +77,7 @@ pub fn match_trees(
     if item != 0 {
         return MatchAnswer::Refused(item);
     }
-    let weights = edge_weights(table);
-    let rnear = neighbour_table(recorded);
-    let rlabels = edge_label_table(recorded, &rnear);
-    let fnear = neighbour_table(found);
-    let flabels = edge_label_table(found, &fnear);
-    let o = postorder(&rnear);
-    let order = o.at;
-    let place = places(o);
-    let begins = starts(found, &fnear);
-    let w = solve_and_read(
-        table,
-        recorded,
-        found,
-        &weights,
-        &rnear,
-        &rlabels,
-        &fnear,
-        &flabels,
-        &order,
-        &place,
-        &begins,
-        work,
-        mapping,
-    );
+    let plan = make(recorded, found);
+    let w = solve_and_read(table, recorded, found, &plan, work, mapping);
     MatchAnswer::Found(w)
 }

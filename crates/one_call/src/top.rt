@@ -1,25 +1,22 @@
 //! The pair of vertices with the largest value: where a heaviest mapping has its top.
 use formats::tree::vertex_count;
-ghost use Prim.Native.Nat.{ℕ, _+_, _*_, _<_, _≤_};
+use integers::above_zero;
+use plan::counts::width_of;
+use plan::offset;
+use plan::place;
+ghost use Prim.Native.Nat.{_+_, _*_, _<_, _≤_};
 ghost use mathlib.Core.Path.{_≡_};
-ghost use lib.ListN.{getD, length};
-ghost use Rattle.foundations.specs.Int.{up};
+ghost use Rattle.model.specs.Limits.{vertexLimit, widthLimit};
 ghost use Rattle.model.specs.Tree.{count};
-ghost use Rattle.model.specs.Order.{position, width, offset, subproblems};
-ghost use Rattle.one_call.specs.Top.{TopOf, Raised, RowAt, AllAt};
+ghost use Rattle.model.specs.Order.{width, offset, subproblems};
+ghost use Rattle.plan.specs.Plan.{offsetIn};
+ghost use Rattle.one_call.specs.Top.{TopOf, Raised, RowValues, AllAt};
 
 // A number that is not negative and the pair that has it; of 0 the pair says nothing.
 pub struct Top {
     pub weight: u32,
     pub u: u8,
     pub v: u8,
-}
-
-// The greater of 0 and x.
-fn above_zero(x: i32) -> u32
-    ensures { λ r. ⌜ (r ≡ up x) × (r < 2147483648) ⌝ }
-{
-    if x <= 0 { 0 } else { x as u32 }
 }
 
 fn raised(t: Top, x: u32, u: u8, v: u8) -> Top
@@ -32,17 +29,17 @@ fn raised(t: Top, x: u32, u: u8, v: u8) -> Top
     }
 }
 
-fn base_of(place: u8, width: usize) -> usize
-    requires { ⌜ width ≤ 190 ⌝ }
+fn base_of(place: usize, width: usize) -> usize
+    requires { ⌜ (place ≤ vertexLimit) × (width ≤ widthLimit) ⌝ }
     ensures { λ r. ⌜ r ≡ place * width ⌝ }
 {
-    (place as usize) * width
+    place * width
 }
 
 // The values of recorded vertex u, whose subproblems begin at `base`.
 fn top_of_row(
     work: &[i32],
-    starts: &[usize; 65],
+    plan: &[[u8; 8]; 512],
     recorded: &[u8],
     found: &[u8],
     base: usize,
@@ -50,14 +47,14 @@ fn top_of_row(
     u: u8,
     t: Top,
 ) -> Top
-    requires { ⌜ RowAt (now recorded) (now found) (now work) (now starts) base m u ⌝ }
+    requires { ⌜ RowValues (now recorded) (now found) (now work) (offsetIn (now plan)) base m u ⌝ }
     requires { ⌜ TopOf (now recorded) (now found) (now work) u 0 (t .weight) (t .u) (t .v) ⌝ }
     ensures { λ r. ⌜ TopOf (now (recorded .entry)) (now (found .entry)) (now (work .entry)) (u + 1) 0 (r .weight) (r .u) (r .v) ⌝ }
 {
     let mut top = t;
     let mut v: u8 = 0;
     while (v as usize) < m {
-        let x = above_zero(work[base + starts[v as usize]]);
+        let x = above_zero(work[base + offset(plan, v)]);
         let next = raised(top, x, u, v);
         top = next;
         v += 1;
@@ -66,18 +63,13 @@ fn top_of_row(
 }
 
 // The pair with the largest value over the work numbers as they are.
-pub fn largest(
-    work: &[i32],
-    place: &[u8; 64],
-    starts: &[usize; 65],
-    recorded: &[u8],
-    found: &[u8],
-) -> Top
-    requires { ⌜ AllAt (now recorded) (now found) (now work) (now place) (now starts) ⌝ }
+pub fn largest(work: &[i32], plan: &[[u8; 8]; 512], recorded: &[u8], found: &[u8]) -> Top
+    requires { ⌜ AllAt (now recorded) (now found) (now work) (now plan) ⌝ }
     ensures { λ r. ⌜ TopOf (now (recorded .entry)) (now (found .entry)) (now (work .entry)) (count (now (recorded .entry))) 0 (r .weight) (r .u) (r .v) ⌝ }
 {
     let n = vertex_count(recorded);
     let m = vertex_count(found);
+    let width = width_of(found);
     let mut top = Top {
         weight: 0,
         u: 0,
@@ -85,8 +77,8 @@ pub fn largest(
     };
     let mut u: u8 = 0;
     while (u as usize) < n {
-        let base = base_of(place[u as usize], starts[m]);
-        let next = top_of_row(work, starts, recorded, found, base, m, u, top);
+        let base = base_of(place(plan, u), width);
+        let next = top_of_row(work, plan, recorded, found, base, m, u, top);
         top = next;
         u += 1;
     }

@@ -1,7 +1,7 @@
 -- What storing a mark, a number, a row of duals and a record leaves. Assumes nothing.
-use mathlib.Core.Path.{_≡_, ap, _∙_, subst}
+use mathlib.Core.Path.{_≡_, _∙_, subst}
 use mathlib.Core.Logic.{inl, ⊎-elim, _≢_}
-use mathlib.Core.Bool.{true, cond}
+use mathlib.Core.Bool.{true}
 use mathlib.Core.List.{List}
 use Prim.Native.Nat.{ℕ, _+_, _*_, _≤_, _<_}
 use native.Mathlib.Omega.{arith}
@@ -9,29 +9,20 @@ use native.Mathlib.Nat.{not-suc-le-zero}
 use borrow.Author.Count.{below-more}
 use lib.ListN.{length, getD, set, length-set}
 use lib.Seq.{getD-set-same, getD-set-other}
-use lib.Dec.{ltb}
 use lib.IntN.{ℤ, pos}
 use mir.Syntax.{w32}
 use mir.Val.{SFits}
 use Rattle.foundations.specs.Tests.{eqb-same}
+use Rattle.model.specs.Limits.{degreeLimit, dualLimit}
 use Rattle.model.specs.Bytes.{isMark, int32At, putInt32}
 use Rattle.model.specs.Certificate.{recordMark}
 use Rattle.integers.specs.Laws.{put-length, put-other, read-put}
 use Rattle.put.specs.Kept.{Kept, kept-none, kept-wide, kept-both, kept-number, kept-mark}
 
--- the j-th number that is not `skip`
-unfoldable pub column : ℕ → ℕ → ℕ
-column skip j = cond (ltb j skip) j (j + 1)
-
--- the duals of the columns other than `skip`
-unfoldable pub rowOf : List ℕ → ℕ → ℕ → ℕ
-rowOf duals skip j = getD duals (column skip j) 0
-
--- `count` of them are there, and fit four bytes
-pub record Fit (duals : List ℕ) (count skip : ℕ) : Type 0 where
-  pub few : count ≤ 8
-  pub inside : (j : ℕ) → j < count → column skip j < 8
-  pub low : (j : ℕ) → j < count → rowOf duals skip j ≤ 128000000
+-- the first `count` of a row of duals fit four bytes each
+pub record Fit (duals : List ℕ) (count : ℕ) : Type 0 where
+  pub few : count ≤ degreeLimit
+  pub low : (j : ℕ) → j < count → getD duals j 0 ≤ dualLimit
 
 pub record MarkPut (k : ℕ) (m z z′ : List ℕ) : Type 0 where
   pub mark : isMark z′ k m ≡ true
@@ -41,16 +32,16 @@ pub record NumberPut (k : ℕ) (w : ℤ) (z z′ : List ℕ) : Type 0 where
   pub number : int32At z′ k ≡ w
   pub kept : Kept k (k + 4) z z′
 
--- the numbers g 0, g 1, .. below g n, from k on
-pub record RowPut (k n : ℕ) (g : ℕ → ℕ) (z z′ : List ℕ) : Type 0 where
-  pub numbers : (j : ℕ) → j < n → int32At z′ (k + 4 * j) ≡ pos (g j)
+-- the first n of a row of duals, from k on
+pub record RowPut (k n : ℕ) (duals z z′ : List ℕ) : Type 0 where
+  pub numbers : (j : ℕ) → j < n → int32At z′ (k + 4 * j) ≡ pos (getD duals j 0)
   pub kept : Kept k (k + 4 * n) z z′
 
-pub record RecordPut (k : ℕ) (w : ℤ) (y : List ℕ) (n : ℕ) (x : List ℕ) (l skip : ℕ) (z z′ : List ℕ) : Type 0 where
+pub record RecordPut (k : ℕ) (w : ℤ) (y : List ℕ) (n : ℕ) (x : List ℕ) (l : ℕ) (z z′ : List ℕ) : Type 0 where
   pub mark : isMark z′ k recordMark ≡ true
   pub value : int32At z′ (k + 2) ≡ w
-  pub ofChild : (i : ℕ) → i < n → int32At z′ (k + 6 + 4 * i) ≡ pos (rowOf y 8 i)
-  pub ofOther : (j : ℕ) → j < l → int32At z′ (k + 6 + 4 * n + 4 * j) ≡ pos (rowOf x skip j)
+  pub ofChild : (i : ℕ) → i < n → int32At z′ (k + 6 + 4 * i) ≡ pos (getD y i 0)
+  pub ofOther : (j : ℕ) → j < l → int32At z′ (k + 6 + 4 * n + 4 * j) ≡ pos (getD x j 0)
   pub kept : Kept k (k + 6 + 4 * n + 4 * l) z z′
 
 pub mark-put : (k : ℕ) (m z : List ℕ) → k + 2 ≤ length z → MarkPut k m z (set (set z k (getD m 0 0)) (k + 1) (getD m 1 0))
@@ -85,27 +76,27 @@ number-as e N = record { number = N .number ∙ e; kept = N .kept }
 
 -- ---- a row
 
-pub row-none : (k : ℕ) (g : ℕ → ℕ) (z : List ℕ) → RowPut k 0 g z z
-row-none k g z = record { numbers = λ j h. absurd (not-suc-le-zero h); kept = kept-none k (k + 4 * 0) z }
+pub row-none : (k : ℕ) (duals z : List ℕ) → RowPut k 0 duals z z
+row-none k duals z = record { numbers = λ j h. absurd (not-suc-le-zero h); kept = kept-none k (k + 4 * 0) z }
 
-pub row-more : {k i : ℕ} {g : ℕ → ℕ} {z y x : List ℕ} {d : ℕ} → RowPut k i g z y → d ≡ g i → NumberPut (k + 4 * i) (pos d) y x → RowPut k (i + 1) g z x
-row-more {k} {i} {g} {z} {y} {x} {d} R e N =
+pub row-more : {k i : ℕ} {duals z y x : List ℕ} → RowPut k i duals z y → NumberPut (k + 4 * i) (pos (getD duals i 0)) y x → RowPut k (i + 1) duals z x
+row-more {k} {i} {duals} {z} {y} {x} R N =
     record {
       numbers = below-more
-          (λ (j : ℕ). int32At x (k + 4 * j) ≡ pos (g j))
+          (λ (j : ℕ). int32At x (k + 4 * j) ≡ pos (getD duals j 0))
           i
           (λ j h. kept-number (N .kept) (k + 4 * j) (inl (omega arith)) ∙ R .numbers j h)
-          (N .number ∙ ap pos e);
+          (N .number);
       kept = kept-both (kept-wide (omega arith) (omega arith) (R .kept)) (kept-wide (omega arith) (omega arith) (N .kept));
     }
 
-pub row-end : {k i n : ℕ} {g : ℕ → ℕ} {z y : List ℕ} → RowPut k i g z y → i ≡ n → RowPut k n g z y
-row-end {k} {i} {n} {g} {z} {y} R e = subst (λ (m : ℕ). RowPut k m g z y) e R
+pub row-end : {k i n : ℕ} {duals z y : List ℕ} → RowPut k i duals z y → i ≡ n → RowPut k n duals z y
+row-end {k} {i} {n} {duals} {z} {y} R e = subst (λ (m : ℕ). RowPut k m duals z y) e R
 
 -- ---- a record
 
-pub record-put : {k : ℕ} {w : ℤ} {y : List ℕ} {n : ℕ} {x : List ℕ} {l skip : ℕ} {z0 z1 z2 z3 z4 : List ℕ} → MarkPut k recordMark z0 z1 → NumberPut (k + 2) w z1 z2 → RowPut (k + 6) n (rowOf y 8) z2 z3 → RowPut (k + 6 + 4 * n) l (rowOf x skip) z3 z4 → RecordPut k w y n x l skip z0 z4
-record-put {k} {w} {y} {n} {x} {l} {skip} M N R S =
+pub record-put : {k : ℕ} {w : ℤ} {y : List ℕ} {n : ℕ} {x : List ℕ} {l : ℕ} {z0 z1 z2 z3 z4 : List ℕ} → MarkPut k recordMark z0 z1 → NumberPut (k + 2) w z1 z2 → RowPut (k + 6) n y z2 z3 → RowPut (k + 6 + 4 * n) l x z3 z4 → RecordPut k w y n x l z0 z4
+record-put {k} {w} {y} {n} {x} {l} M N R S =
     record {
       mark = kept-mark (S .kept) k recordMark (inl (omega arith)) ∙ kept-mark (R .kept) k recordMark (inl (omega arith)) ∙ kept-mark (N .kept) k recordMark (inl (omega arith)) ∙ M .mark;
       value = kept-number (S .kept) (k + 2) (inl (omega arith)) ∙ kept-number (R .kept) (k + 2) (inl (omega arith)) ∙ N .number;

@@ -3,12 +3,13 @@ use crate::put_mark;
 use crate::put_number;
 ghost use Prim.Native.Nat.{_+_, _*_, _≤_};
 ghost use lib.ListN.{length};
+ghost use Rattle.model.specs.Limits.{vertexLimit};
 ghost use Rattle.put.specs.Front.{HeadPut, PartnerPut, PartnersPut, FrontPut};
 
 // Stores the head: the two counts and the weight.
 fn put_head(d: &mut [u8], n: usize, m: usize, w: i32)
     requires { ⌜ 8 ≤ length (now d) ⌝ }
-    requires { ⌜ (n ≤ 64) × (m ≤ 64) ⌝ }
+    requires { ⌜ (n ≤ vertexLimit) × (m ≤ vertexLimit) ⌝ }
     ensures { λ _. ⌜ HeadPut n m w (now (d .entry)) (now (d .exit)) ⌝ }
 {
     put_mark(d, 0, b"\xC1\x01");
@@ -29,7 +30,7 @@ fn put_partner(d: &mut [u8], at: usize, p: u8)
 // Stores the first n partners.
 fn put_partners(d: &mut [u8], mapping: &[u8; 64], n: usize)
     requires { ⌜ 8 + 3 * n ≤ length (now d) ⌝ }
-    requires { ⌜ n ≤ 64 ⌝ }
+    requires { ⌜ n ≤ vertexLimit ⌝ }
     ensures { λ _. ⌜ PartnersPut n (now (mapping .entry)) (now (d .entry)) (now (d .exit)) ⌝ }
 {
     let mut i = 0;
@@ -42,7 +43,7 @@ fn put_partners(d: &mut [u8], mapping: &[u8; 64], n: usize)
 // Stores the head and n partners.
 pub fn put_front(d: &mut [u8], n: usize, m: usize, w: i32, mapping: &[u8; 64])
     requires { ⌜ 8 + 3 * n ≤ length (now d) ⌝ }
-    requires { ⌜ (n ≤ 64) × (m ≤ 64) ⌝ }
+    requires { ⌜ (n ≤ vertexLimit) × (m ≤ vertexLimit) ⌝ }
     ensures { λ _. ⌜ FrontPut n m w (now (mapping .entry)) (now (d .entry)) (now (d .exit)) ⌝ }
 {
     put_head(d, n, m, w);

@@ -3,10 +3,10 @@ pub mod front;
 
 use integers::encode;
 ghost use Prim.Native.Nat.{_+_, _*_, _≤_};
-ghost use mathlib.Core.Path.{_≡_};
 ghost use lib.IntN.{pos};
 ghost use lib.ListN.{length};
-ghost use Rattle.put.specs.Puts.{column, Fit, MarkPut, NumberPut, RowPut, RecordPut, rowOf};
+ghost use Rattle.model.specs.Limits.{dualLimit};
+ghost use Rattle.put.specs.Puts.{Fit, MarkPut, NumberPut, RowPut, RecordPut};
 
 // Stores the two bytes of the mark m.
 pub fn put_mark(d: &mut [u8], at: usize, m: &[u8; 2])
@@ -28,30 +28,21 @@ pub fn put_number(d: &mut [u8], at: usize, w: i32)
 // Stores a dual in four bytes.
 fn put_dual(d: &mut [u8], at: usize, x: u64)
     requires { ⌜ at + 4 ≤ length (now d) ⌝ }
-    requires { ⌜ x ≤ 128000000 ⌝ }
+    requires { ⌜ x ≤ dualLimit ⌝ }
     ensures { λ _. ⌜ NumberPut at (pos x) (now (d .entry)) (now (d .exit)) ⌝ }
 {
     put_number(d, at, x as i32);
 }
 
-// The j-th column that is not `skip`.
-fn column(skip: usize, j: usize) -> usize
-    requires { ⌜ j ≤ 8 ⌝ }
-    ensures { λ r. ⌜ r ≡ column skip j ⌝ }
-{
-    if j < skip { j } else { j + 1 }
-}
-
-// Stores `count` duals, those of the columns other than `skip` in order.
-pub fn put_row(d: &mut [u8], at: usize, duals: &[u64; 8], count: usize, skip: usize)
+// Stores the first `count` duals.
+fn put_row(d: &mut [u8], at: usize, duals: &[u64; 8], count: usize)
     requires { ⌜ at + 4 * count ≤ length (now d) ⌝ }
-    requires { ⌜ Fit (now duals) count skip ⌝ }
-    ensures { λ _. ⌜ RowPut at count (rowOf (now (duals .entry)) skip) (now (d .entry)) (now (d .exit)) ⌝ }
+    requires { ⌜ Fit (now duals) count ⌝ }
+    ensures { λ _. ⌜ RowPut at count (now (duals .entry)) (now (d .entry)) (now (d .exit)) ⌝ }
 {
     let mut i = 0;
     while i < count {
-        let x = duals[column(skip, i)];
-        put_dual(d, at + 4 * i, x);
+        put_dual(d, at + 4 * i, duals[i]);
         i += 1;
     }
 }
@@ -65,15 +56,14 @@ pub fn put_record(
     k: usize,
     neighbours: &[u64; 8],
     l: usize,
-    skip: usize,
 )
     requires { ⌜ at + 6 + 4 * k + 4 * l ≤ length (now d) ⌝ }
-    requires { ⌜ Fit (now children) k 8 ⌝ }
-    requires { ⌜ Fit (now neighbours) l skip ⌝ }
-    ensures { λ _. ⌜ RecordPut at w (now (children .entry)) k (now (neighbours .entry)) l skip (now (d .entry)) (now (d .exit)) ⌝ }
+    requires { ⌜ Fit (now children) k ⌝ }
+    requires { ⌜ Fit (now neighbours) l ⌝ }
+    ensures { λ _. ⌜ RecordPut at w (now (children .entry)) k (now (neighbours .entry)) l (now (d .entry)) (now (d .exit)) ⌝ }
 {
     put_mark(d, at, b"\xC1\x03");
     put_number(d, at + 2, w);
-    put_row(d, at + 6, children, k, 8);
-    put_row(d, at + 6 + 4 * k, neighbours, l, skip);
+    put_row(d, at + 6, children, k);
+    put_row(d, at + 6 + 4 * k, neighbours, l);
 }

@@ -1,7 +1,7 @@
 -- The steps of reading out in the terms of the code, for inputs that items 1 to 12 let pass. Assumes nothing.
 use mathlib.Core.Path.{_≡_, sym, ap, _∙_, subst}
 use mathlib.Core.Logic.{_≢_}
-use mathlib.Core.List.{List, [], _++_}
+use mathlib.Core.List.{List, _++_}
 use Prim.Native.Nat.{ℕ, suc, _+_, _-_, _≤_, _<_}
 use native.Mathlib.Omega.{arith}
 use native.Mathlib.Numerals.{add-one}
@@ -21,16 +21,15 @@ use Rattle.subtrees.specs.Accepted.{recorded-tree, found-tree}
 use Rattle.subtrees.specs.Optimal.{no-noVertex}
 use Rattle.subtrees.specs.Trees.{IsTree}
 use Rattle.solver.specs.Choice.{ChoiceAt}
-use Rattle.solver.specs.Plan.{Known}
-use Rattle.solver.specs.PlanLaws.{KidsTo, kids-are}
+use Rattle.plan.specs.Plan.{childCountIn, childIn, Ready}
 use Rattle.readout.specs.Read.{Read, Reading, Room}
-use Rattle.readout.specs.ReadSteps.{read-none, reading-start, reading-more, reading-done, read-front, read-rest, lies-low, room-deep, room-kid, kid-subproblem}
+use Rattle.readout.specs.ReadSteps.{read-none, reading-start, reading-more, reading-done, read-front, read-rest, lies-low, room-deep, room-child, child-subproblem}
 
 -- the n children of u, and in the same places their mates below (u, v, s)
-pub record BranchPairs (table r f : List ℕ) (work : List ℤ) (u v s n : ℕ) (kids mates : List ℕ) : Type 0 where
+pub record BranchPairs (table r f : List ℕ) (work : List ℤ) (u v s n : ℕ) (names : ℕ → ℕ) (mates : List ℕ) : Type 0 where
   pub used : n ≡ length (children r u)
   pub few : n ≤ 8
-  pub names : (i : ℕ) → i < n → getD kids i 0 ≡ getD (children r u) i 0
+  pub named : (i : ℕ) → i < n → names i ≡ getD (children r u) i 0
   pub choice : ChoiceAt table r f work u v s mates
 
 -- the first bytes of q are what is read out from (u, v) at the top, and the rest is p's
@@ -51,12 +50,12 @@ clear-more a d i h =
     ∙ ap (λ (m : List ℕ). m ++ drop (suc i) d) (replicate-append-replicate i 1 a)
     ∙ ap (λ (k : ℕ). replicate (i + 1) a ++ drop k d) (sym (add-one i))
 
--- the code's two rows are the branch pairs
-pub branch-pairs : {table r f : List ℕ} {work numbers : List ℤ} {rnear rlabels fnear flabels : List (List ℕ)} {place starts : List ℕ} {u v s w n : ℕ} {label base kids mates : List ℕ}
-    → Known table r f numbers rnear rlabels fnear flabels place starts → u < count r → KidsTo (getD rnear u []) (getD rlabels u []) place (getD place u 0) w 8 n label base kids → ChoiceAt table r f work u v s mates → BranchPairs table r f work u v s n kids mates
-branch-pairs {table} {r} {f} {work} {numbers} {rnear} {rlabels} {fnear} {flabels} {place} {starts} {u} {v} {s} {w} {n} {label} {base} {kids} {mates} k lu K C =
-    let q = kids-are r _ _ (input-accepted table r f (k .passes) .recorded) place (k .placed) u w n label base kids lu (rw (k .near, k .edges, k .placed u lu) at K) in
-    record { used = q .used; few = q .few; names = q .names; choice = C }
+-- by the plan
+pub branch-pairs : {table r f : List ℕ} {plan : List (List ℕ)} {work : List ℤ} {u v s n : ℕ} {mates : List ℕ} → Ready table r f plan → u < count r → n ≡ childCountIn plan u → ChoiceAt table r f work u v s mates → BranchPairs table r f work u v s n (childIn plan u) mates
+branch-pairs {n = n} N lu e C =
+    let R = N .planned .recorded _ lu in
+    let a : n ≡ length (children _ _) = e ∙ R .child-count in
+    record { used = a; few = let b = R .few in omega arith; named = λ i h. R .child i (omega arith); choice = C }
 
 module _ (table r f : List ℕ) (work : List ℤ) (passes : inputItem table r f ≡ 0) where
   abbrev tr : IsTree r
@@ -77,7 +76,7 @@ module _ (table r f : List ℕ) (work : List ℤ) (passes : inputItem table r f 
       let b = R .long in
       subst (λ (m : List ℕ). Reading table r f work u v mates p 0 m) (sym e) (reading-start r tr table f work u v mates p a (omega arith) (R .blank))
 
-  module _ {u v s d n : ℕ} {kids mates p q : List ℕ} {i : ℕ} (R : Room r u d p) (B : BranchPairs table r f work u v s n kids mates) (S : Reading table r f work u v mates p i q) where
+  module _ {u v s d n : ℕ} {names : ℕ → ℕ} {mates p q : List ℕ} {i : ℕ} (R : Room r u d p) (B : BranchPairs table r f work u v s n names mates) (S : Reading table r f work u v mates p i q) where
     pub pair-done : n ≤ i → Subproblem r f u v s → Read table r f work u v s p q
     pair-done h P = let e = B .used in reading-done r tr table f work u v mates p (R .low) s i q (omega arith) P (no-noVertex table r f tr tf v (P .v-low)) (B .choice) S
 
@@ -85,14 +84,14 @@ module _ (table r f : List ℕ) (work : List ℤ) (passes : inputItem table r f 
       in-children : i < length (children r u)
       in-children = let e = B .used in omega arith
 
-      pub branch-room : Room r (getD kids i 0) (d - 1) q
-      branch-room = subst (λ (c : ℕ). Room r c (d - 1) q) (sym (B .names i l)) (room-kid r tr table f work u v d i mates p q R in-children S)
+      pub branch-room : Room r (names i) (d - 1) q
+      branch-room = subst (λ (c : ℕ). Room r c (d - 1) q) (sym (B .named i l)) (room-child r tr table f work u v d i mates p q R in-children S)
 
-      pub branch-subproblem : getD mates i 0 ≢ noVertex → Subproblem r f (getD kids i 0) (getD mates i 0) v
-      branch-subproblem h = subst (λ (c : ℕ). Subproblem r f c (getD mates i 0) v) (sym (B .names i l)) (kid-subproblem r tr f tf table work u v s i mates (R .low) in-children (B .choice) h)
+      pub branch-subproblem : getD mates i 0 ≢ noVertex → Subproblem r f (names i) (getD mates i 0) v
+      branch-subproblem h = subst (λ (c : ℕ). Subproblem r f c (getD mates i 0) v) (sym (B .named i l)) (child-subproblem r tr f tf table work u v s i mates (R .low) in-children (B .choice) h)
 
-      pub branch-more : {q′ : List ℕ} → Read table r f work (getD kids i 0) (getD mates i 0) v q q′ → Reading table r f work u v mates p (i + 1) q′
-      branch-more {q′} D = reading-more r tr table f work u v mates p (R .low) i q q′ in-children S (subst (λ (c : ℕ). Read table r f work c (getD mates i 0) v q q′) (B .names i l) D)
+      pub branch-more : {q′ : List ℕ} → Read table r f work (names i) (getD mates i 0) v q q′ → Reading table r f work u v mates p (i + 1) q′
+      branch-more {q′} D = reading-more r tr table f work u v mates p (R .low) i q q′ in-children S (subst (λ (c : ℕ). Read table r f work c (getD mates i 0) v q q′) (B .named i l) D)
 
   -- ---- the whole
 

@@ -2,5 +2,4 @@
 pub mod Read
 pub mod ReadSteps
 pub mod ReadTheorems
-pub mod WeighLaws
 pub mod CycleLaws

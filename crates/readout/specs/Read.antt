@@ -31,7 +31,7 @@ pub record Row (table r f : List ℕ) (work : List ℤ) (q : List ℕ) (x v s : 
   pub subproblem : Subproblem r f x v s
   pub mates : List ℕ
   pub choice : ChoiceAt table r f work x v s mates
-  pub kids : (c : ℕ) → T (mem c (children r x)) → partner q c ≡ mateIn (children r x) mates c
+  pub branches : (c : ℕ) → T (mem c (children r x)) → partner q c ≡ mateIn (children r x) mates c
 
 -- each vertex of c's subtree that has a partner chose a row: c with s, any other with the partner of its parent, which has one
 abbrev pub Settled : List ℕ → List ℕ → List ℕ → List ℤ → ℕ → ℕ → List ℕ → Type 0

@@ -37,33 +37,33 @@ module _ (r : List ℕ) (tr : IsTree r) where
   lies-low lu h = ⊎-elim (λ e. subst (λ (y : ℕ). y < count r) (sym e) lu) (λ k. k .0 .0) (climb-cases h)
 
   -- child j of u
-  abbrev kid : ℕ → ℕ → ℕ
-  kid u j = getD (children r u) j 0
+  abbrev childOf : ℕ → ℕ → ℕ
+  childOf u j = getD (children r u) j 0
 
   module _ (u : ℕ) (lu : u < count r) where
-    kid-is : (j : ℕ) → j < length (children r u) → (kid u j < count r) × (kid u j ≢ 0) × (parent r (kid u j) ≡ u)
-    kid-is j l = child-of r (tr .ends) (tr .loopless) u (kid u j) lu (getD-mem (children r u) j l)
+    child-is : (j : ℕ) → j < length (children r u) → (childOf u j < count r) × (childOf u j ≢ 0) × (parent r (childOf u j) ≡ u)
+    child-is j l = child-of r (tr .ends) (tr .loopless) u (childOf u j) lu (getD-mem (children r u) j l)
 
-    kid-place : (j : ℕ) → j < length (children r u) → place (kid u j) (children r u) ≡ j
-    kid-place j l = place-one (kid u j) (children r u) j (distinct-occ (kid u j) (children r u) (once-children r u)) l refl
+    child-place : (j : ℕ) → j < length (children r u) → place (childOf u j) (children r u) ≡ j
+    child-place j l = place-one (childOf u j) (children r u) j (distinct-occ (childOf u j) (children r u) (once-children r u)) l refl
 
     -- a child's subtree is below u, without u
-    kid-lies : (j x : ℕ) → j < length (children r u) → Lies r (kid u j) x → Lies r u x
-    kid-lies j x l h = let k = kid-is j l in subst (λ (y : ℕ). Lies r y x) (k .2) (under-up (count r) (parent r) (depth r) (falls r tr) (k .0, k .1) h)
+    child-below : (j x : ℕ) → j < length (children r u) → Lies r (childOf u j) x → Lies r u x
+    child-below j x l h = let k = child-is j l in subst (λ (y : ℕ). Lies r y x) (k .2) (under-up (count r) (parent r) (depth r) (falls r tr) (k .0, k .1) h)
 
-    kid-not : (j : ℕ) → j < length (children r u) → ¬ (Lies r (kid u j) u)
-    kid-not j l h = let k = kid-is j l in off (deep h) (falls r tr (kid u j) (k .0) (k .1) .1) (ap (depth r) (k .2))
+    child-not : (j : ℕ) → j < length (children r u) → ¬ (Lies r (childOf u j) u)
+    child-not j l h = let k = child-is j l in off (deep h) (falls r tr (childOf u j) (k .0) (k .1) .1) (ap (depth r) (k .2))
       where
         off : {a b c : ℕ} → a ≤ b → c < a → c ≡ b → ⊥
         off h k e = omega arith
 
     -- subtrees of different children have no vertex in common
-    kids-apart : (i j x : ℕ) → i < length (children r u) → j < length (children r u) → j ≢ i → Lies r (kid u j) x → ¬ (Lies r (kid u i) x)
-    kids-apart i j x li lj n h k =
-        let a = kid-is i li in
-        let b = kid-is j lj in
-        let e = siblings (count r) (parent r) (depth r) (falls r tr) (kid u j) (kid u i) x (b .0, b .1) (a .0, a .1) (b .2 ∙ sym (a .2)) h k in
-        n (sym (kid-place j lj) ∙ ap (λ (y : ℕ). place y (children r u)) e ∙ kid-place i li)
+    children-apart : (i j x : ℕ) → i < length (children r u) → j < length (children r u) → j ≢ i → Lies r (childOf u j) x → ¬ (Lies r (childOf u i) x)
+    children-apart i j x li lj n h k =
+        let a = child-is i li in
+        let b = child-is j lj in
+        let e = siblings (count r) (parent r) (depth r) (falls r tr) (childOf u j) (childOf u i) x (b .0, b .1) (a .0, a .1) (b .2 ∙ sym (a .2)) h k in
+        n (sym (child-place j lj) ∙ ap (λ (y : ℕ). place y (children r u)) e ∙ child-place i li)
 
   -- a child of a vertex of c's subtree, and the parent of one but c, are of it too
   child-lies : (c x y : ℕ) → x < count r → Lies r c x → T (mem y (children r x)) → Lies r c y
@@ -73,7 +73,7 @@ module _ (r : List ℕ) (tr : IsTree r) where
     -- a row says the same of bytes that agree on the children
     row-same : (q q′ : List ℕ) (x v v′ s s′ : ℕ) → v ≡ v′ → s ≡ s′ → ((c : ℕ) → T (mem c (children r x)) → partner q′ c ≡ partner q c) → Row table r f work q x v s → Row table r f work q′ x v′ s′
     row-same q q′ x v v′ s s′ e g k w = subst (λ (y : ℕ). Row table r f work q′ x y s′) e (subst (λ (y : ℕ). Row table r f work q′ x v y) g
-        (record { subproblem = w .subproblem; mates = w .mates; choice = w .choice; kids = λ c m. k c m ∙ w .kids c m }))
+        (record { subproblem = w .subproblem; mates = w .mates; choice = w .choice; branches = λ c m. k c m ∙ w .branches c m }))
 
     mapped-same : (q q′ : List ℕ) (x : ℕ) → partner q x ≡ partner q′ x → T (mapped q x) → T (mapped q′ x)
     unfolding mapped
@@ -111,24 +111,24 @@ module _ (r : List ℕ) (tr : IsTree r) where
         top = getD-set-same p u v 0 lp;
         away = λ x n. getD-set-other p u x v 0 (λ e. n (subst (λ (y : ℕ). Lies r u y) (sym e) here));
         done = λ j l. absurd (not-suc-le-zero l);
-        left = λ j h l x k. getD-set-other p u x v 0 (λ e. kid-not u lu j l (subst (λ (y : ℕ). Lies r (kid u j) y) e k)) ∙ B x (kid-lies u lu j x l k);
+        left = λ j h l x k. getD-set-other p u x v 0 (λ e. child-not u lu j l (subst (λ (y : ℕ). Lies r (childOf u j) y) e k)) ∙ B x (child-below u lu j x l k);
       }
 
-      pub reading-more : (i : ℕ) (q q′ : List ℕ) → i < length (children r u) → Reading table r f work u v mates p i q → Read table r f work (kid u i) (getD mates i 0) v q q′ → Reading table r f work u v mates p (i + 1) q′
+      pub reading-more : (i : ℕ) (q q′ : List ℕ) → i < length (children r u) → Reading table r f work u v mates p i q → Read table r f work (childOf u i) (getD mates i 0) v q q′ → Reading table r f work u v mates p (i + 1) q′
       reading-more i q q′ l S R = record {
         size = R .size ∙ S .size;
-        top = R .away u (kid-not u lu i l) ∙ S .top;
-        away = λ x n. R .away x (λ h. n (kid-lies u lu i x l h)) ∙ S .away x n;
+        top = R .away u (child-not u lu i l) ∙ S .top;
+        away = λ x n. R .away x (λ h. n (child-below u lu i x l h)) ∙ S .away x n;
         done = λ j h lj. ⊎-elim
-            (λ e. (subst (λ (k : ℕ). partner q′ (kid u k) ≡ getD mates k 0) (sym e) (R .top), subst (λ (k : ℕ). Settled table r f work (kid u k) v q′) (sym e) (R .settled)))
+            (λ e. (subst (λ (k : ℕ). partner q′ (childOf u k) ≡ getD mates k 0) (sym e) (R .top), subst (λ (k : ℕ). Settled table r f work (childOf u k) v q′) (sym e) (R .settled)))
             (λ n. let d = S .done j (omega arith) lj in
-            (other j lj n (kid u j) here ∙ d .0, settled-same (kid u j) v q q′ (other j lj n) (d .1)))
+            (other j lj n (childOf u j) here ∙ d .0, settled-same (childOf u j) v q q′ (other j lj n) (d .1)))
             (same? j i);
         left = λ j h lj x k. other j lj (λ e. omega (arith, e)) x k ∙ S .left j (omega arith) lj x k;
       }
         where
-          other : (j : ℕ) → j < length (children r u) → j ≢ i → (x : ℕ) → Lies r (kid u j) x → partner q′ x ≡ partner q x
-          other j lj n x h = R .away x (kids-apart u lu i j x l lj n h)
+          other : (j : ℕ) → j < length (children r u) → j ≢ i → (x : ℕ) → Lies r (childOf u j) x → partner q′ x ≡ partner q x
+          other j lj n x h = R .away x (children-apart u lu i j x l lj n h)
 
       -- every child was listed
       pub reading-done : (s i : ℕ) (q : List ℕ) → length (children r u) ≤ i → Subproblem r f u v s → v ≢ noVertex → ChoiceAt table r f work u v s mates → Reading table r f work u v mates p i q → Read table r f work u v s p q
@@ -140,8 +140,8 @@ module _ (r : List ℕ) (tr : IsTree r) where
         settled = λ x k t. ⊎-elim (own x) (λ m. below x (m .0) (m .1) (m .2) (m .3) t) (under-child (count r) (parent r) (depth r) (falls r tr) k);
       }
         where
-          kids : (c : ℕ) → T (mem c (children r u)) → partner q c ≡ getD mates (place c (children r u)) 0
-          kids c m =
+          branches : (c : ℕ) → T (mem c (children r u)) → partner q c ≡ getD mates (place c (children r u)) 0
+          branches c m =
               let o = mem-occ c (children r u) m in
               let a = place-at c (children r u) o in
               let l = place-low c (children r u) o in
@@ -151,7 +151,7 @@ module _ (r : List ℕ) (tr : IsTree r) where
           own x e = inl (
             e,
             subst (λ (y : ℕ). Row table r f work q y (partner q y) s) (sym e) (subst (λ (y : ℕ). Row table r f work q u y s) (sym (S .top))
-                (record { subproblem = sub; mates = mates; choice = C; kids = kids })),
+                (record { subproblem = sub; mates = mates; choice = C; branches = branches })),
           )
 
           below : (x c : ℕ) → (c < count r) × (c ≢ 0) → parent r c ≡ u → Lies r c x → T (mapped q x) → ((x ≡ u) × Row table r f work q x (partner q x) s) ⊎ ((x ≢ u) × T (mapped q (parent r x)) × Row table r f work q x (partner q x) (partner q (parent r x)))
@@ -160,7 +160,7 @@ module _ (r : List ℕ) (tr : IsTree r) where
               let o = mem-occ c (children r u) m in
               let a = place-at c (children r u) o in
               let l = place-low c (children r u) o in
-              let n : x ≢ u = λ w. kid-not u lu (place c (children r u)) l (subst (λ (y : ℕ). Lies r y u) (sym a) (subst (λ (y : ℕ). Lies r c y) w k)) in
+              let n : x ≢ u = λ w. child-not u lu (place c (children r u)) l (subst (λ (y : ℕ). Lies r y u) (sym a) (subst (λ (y : ℕ). Lies r c y) w k)) in
               ⊎-elim
               (λ g. let up : parent r x ≡ u = ap (parent r) (g .0) ∙ e in
               inr (n, subst (λ (y : ℕ). T (mapped q y)) (sym up) (top-on), subst (λ (y : ℕ). Row table r f work q x (partner q x) y) (sym (ap (λ (y : ℕ). partner q y) up ∙ S .top)) (g .1)))
@@ -199,26 +199,26 @@ module _ (r : List ℕ) (tr : IsTree r) where
   room-deep u d p R = let a = depth-count r (tr .ends) (tr .loopless) u (R .low) in let b : count r ≤ depth r u + d = R .deep in omega arith
 
   module _ (table f : List ℕ) (work : List ℤ) where
-    pub room-kid : (u v d i : ℕ) (mates p q : List ℕ) → Room r u d p → i < length (children r u) → Reading table r f work u v mates p i q → Room r (kid u i) (d - 1) q
-    room-kid u v d i mates p q R l S =
-        let k = kid-is u (R .low) i l in
+    pub room-child : (u v d i : ℕ) (mates p q : List ℕ) → Room r u d p → i < length (children r u) → Reading table r f work u v mates p i q → Room r (childOf u i) (d - 1) q
+    room-child u v d i mates p q R l S =
+        let k = child-is u (R .low) i l in
         let a = room-deep u d p R in
         let b : count r ≤ depth r u + d = R .deep in
-        let c = depth-deeper r (tr .ends) (tr .loopless) (kid u i) (k .0) (k .1) in
-        let e : depth r (parent r (kid u i)) ≡ depth r u = ap (depth r) (k .2) in
+        let c = depth-deeper r (tr .ends) (tr .loopless) (childOf u i) (k .0) (k .1) in
+        let e : depth r (parent r (childOf u i)) ≡ depth r u = ap (depth r) (k .2) in
         record { low = k .0; blank = S .left i (omega arith) l; long = rw (S .size) (R .long); deep = omega arith }
 
   module _ (f : List ℕ) (tf : IsTree f) (table : List ℕ) (work : List ℤ) where
     -- the mate of a child makes a subproblem with it
-    pub kid-subproblem : (u v s i : ℕ) (mates : List ℕ) → u < count r → i < length (children r u) → ChoiceAt table r f work u v s mates → getD mates i 0 ≢ noVertex → Subproblem r f (kid u i) (getD mates i 0) v
+    pub child-subproblem : (u v s i : ℕ) (mates : List ℕ) → u < count r → i < length (children r u) → ChoiceAt table r f work u v s mates → getD mates i 0 ≢ noVertex → Subproblem r f (childOf u i) (getD mates i 0) v
     unfolding hasMate mateIn
-    kid-subproblem u v s i mates lu l C n =
-        let e = kid-place u lu i l in
-        let has : T (not (eqb (getD mates (place (kid u i) (children r u)) 0) noVertex)) = rw (e, ne-eqb (getD mates i 0) noVertex n) tt in
-        let m : T (mem (getD mates i 0) (del s (neighbours f v))) = subst (λ (j : ℕ). T (mem (getD mates j 0) (del s (neighbours f v)))) e (C .free (kid u i) (getD-mem (children r u) i l) has) in
+    child-subproblem u v s i mates lu l C n =
+        let e = child-place u lu i l in
+        let has : T (not (eqb (getD mates (place (childOf u i) (children r u)) 0) noVertex)) = rw (e, ne-eqb (getD mates i 0) noVertex n) tt in
+        let m : T (mem (getD mates i 0) (del s (neighbours f v))) = subst (λ (j : ℕ). T (mem (getD mates j 0) (del s (neighbours f v)))) e (C .free (childOf u i) (getD-mem (children r u) i l) has) in
         let h = mem-joined f tf v (getD mates i 0) (del-mem (getD mates i 0) s (neighbours f v) m .0) in
         record {
-          u-low = kid-is u lu i l .0;
+          u-low = child-is u lu i l .0;
           v-low = h .0;
           s-in = mem-there v (getD mates i 0) (neighbours f (getD mates i 0)) (joined-mem f tf (getD mates i 0) v (joined-swap f tf v (getD mates i 0) (h .1)));
         }

@@ -103,10 +103,10 @@ module _ (table r f : List ℕ) (tr : IsTree r) (tf : IsTree f) (work : List ℤ
 
     has : (c : ℕ) → T (mem c (children r u)) → hasMate (children r u) (W .mates) c ≡ on c
     unfolding hasMate mapped
-    has c m = ap (λ (z : ℕ). not (eqb z noVertex)) (sym (W .kids c m))
+    has c m = ap (λ (z : ℕ). not (eqb z noVertex)) (sym (W .branches c m))
 
     mate : (c : ℕ) → T (mem c (children r u)) → mateIn (children r u) (W .mates) c ≡ to c
-    mate c m = sym (W .kids c m)
+    mate c m = sym (W .branches c m)
 
     free : (c : ℕ) → T (mem c (children r u)) → T (on c) → T (mem (to c) (del (ownS (parent r) on to u) (neighbours f (to u))))
     free c m p = subst (λ (z : ℕ). T (mem z (del (ownS (parent r) on to u) (neighbours f (to u))))) (mate c m) (W .choice .free c m (subst T (sym (has c m)) p))

@@ -1,8 +1,9 @@
 //! Reading a mapping out of work numbers: a pair of vertices lists its branch pairs, and a branch pair lists the pair behind it.
 use formats::tree::vertex_count;
-use solver::plan;
-use solver::subproblem;
-ghost use Prim.Native.Nat.{ℕ, _+_, _<_, _≤_};
+use plan::child;
+use plan::child_count;
+use solver::subproblem::choice;
+ghost use Prim.Native.Nat.{_<_, _≤_};
 ghost use mathlib.Core.Path.{_≡_};
 ghost use mathlib.Core.Logic.{_≢_};
 ghost use mathlib.Core.List.{_++_};
@@ -10,78 +11,16 @@ ghost use lib.ListN.{length, drop, replicate};
 ghost use Rattle.model.specs.Limits.{noVertex};
 ghost use Rattle.model.specs.Tree.{count};
 ghost use Rattle.model.specs.Values.{Subproblem};
-ghost use Rattle.solver.specs.Plan.{Known, Lent};
+ghost use Rattle.plan.specs.Plan.{Ready, Lent};
 ghost use Rattle.readout.specs.Read.{Read, Room};
-ghost use Rattle.readout.specs.CycleLaws.{BranchPairs, ReadOut};
-
-// The children of a recorded vertex in their places, and in the same places the found vertex each is paired with, 255 for none.
-pub struct Branches {
-    pub count: usize,
-    pub kids: [u8; 8],
-    pub mates: [u8; 8],
-}
-
-// The branch pairs of (u, v) with s, by the work numbers of u's children.
-fn branch_pairs(
-    table: &[u8],
-    recorded: &[u8],
-    found: &[u8],
-    weights: &[i32; 64],
-    rnear: &[[u8; 8]; 64],
-    rlabels: &[[u8; 8]; 64],
-    fnear: &[[u8; 8]; 64],
-    flabels: &[[u8; 8]; 64],
-    place: &[u8; 64],
-    starts: &[usize; 65],
-    work: &[i32],
-    u: u8,
-    v: u8,
-    s: u8,
-) -> Branches
-    requires { ⌜ Known (now table) (now recorded) (now found) (now weights) (now rnear) (now rlabels) (now fnear) (now flabels) (now place) (now starts) ⌝ }
-    requires { ⌜ Lent (now recorded) (now found) (now work) ⌝ }
-    requires { ⌜ Subproblem (now recorded) (now found) u v s ⌝ }
-    ensures { λ r. ⌜ BranchPairs (now (table .entry)) (now (recorded .entry)) (now (found .entry)) (now (work .entry)) u v s (r .count) (r .kids) (r .mates) ⌝ }
-{
-    let a = u as usize;
-    let row = plan::kids(rnear[a], rlabels[a], place, place[a], 0);
-    let mates = subproblem::choice(
-        table,
-        recorded,
-        found,
-        weights,
-        rnear,
-        rlabels,
-        fnear,
-        flabels,
-        place,
-        starts,
-        work,
-        u,
-        v,
-        s,
-    );
-    let n = row.count;
-    let kids = row.vertex;
-    Branches {
-        count: n,
-        kids: kids,
-        mates: mates,
-    }
-}
+ghost use Rattle.readout.specs.CycleLaws.{ReadOut};
 
 // Writes v as u's partner, and what the branch pairs of (u, v) with s give; no path from u down has more than `depth` vertices.
-pub fn list_pair(
+fn list_pair(
     table: &[u8],
     recorded: &[u8],
     found: &[u8],
-    weights: &[i32; 64],
-    rnear: &[[u8; 8]; 64],
-    rlabels: &[[u8; 8]; 64],
-    fnear: &[[u8; 8]; 64],
-    flabels: &[[u8; 8]; 64],
-    place: &[u8; 64],
-    starts: &[usize; 65],
+    plan: &[[u8; 8]; 512],
     work: &[i32],
     u: u8,
     v: u8,
@@ -89,47 +28,24 @@ pub fn list_pair(
     depth: usize,
     mapping: &mut [u8],
 )
-    requires { ⌜ Known (now table) (now recorded) (now found) (now weights) (now rnear) (now rlabels) (now fnear) (now flabels) (now place) (now starts) ⌝ }
+    requires { ⌜ Ready (now table) (now recorded) (now found) (now plan) ⌝ }
     requires { ⌜ Lent (now recorded) (now found) (now work) ⌝ }
     requires { ⌜ Subproblem (now recorded) (now found) u v s ⌝ }
     requires { ⌜ Room (now recorded) u depth (now mapping) ⌝ }
     ensures { λ _. ⌜ Read (now (table .entry)) (now (recorded .entry)) (now (found .entry)) (now (work .entry)) u v s (now (mapping .entry)) (now (mapping .exit)) ⌝ }
 {
     mapping[u as usize] = v;
-    let b = branch_pairs(
-        table,
-        recorded,
-        found,
-        weights,
-        rnear,
-        rlabels,
-        fnear,
-        flabels,
-        place,
-        starts,
-        work,
-        u,
-        v,
-        s,
-    );
-    let n = b.count;
-    let kids = b.kids;
-    let mates = b.mates;
+    let mates = choice(table, recorded, found, plan, work, u, v, s);
+    let n = child_count(plan, u);
     let mut i = 0;
     while i < n {
         list_branch(
             table,
             recorded,
             found,
-            weights,
-            rnear,
-            rlabels,
-            fnear,
-            flabels,
-            place,
-            starts,
+            plan,
             work,
-            kids[i],
+            child(plan, u, i),
             mates[i],
             v,
             depth - 1,
@@ -140,17 +56,11 @@ pub fn list_pair(
 }
 
 // The branch pair (c, x) below v: the pair behind it, and nothing where x is 255.
-pub fn list_branch(
+fn list_branch(
     table: &[u8],
     recorded: &[u8],
     found: &[u8],
-    weights: &[i32; 64],
-    rnear: &[[u8; 8]; 64],
-    rlabels: &[[u8; 8]; 64],
-    fnear: &[[u8; 8]; 64],
-    flabels: &[[u8; 8]; 64],
-    place: &[u8; 64],
-    starts: &[usize; 65],
+    plan: &[[u8; 8]; 512],
     work: &[i32],
     c: u8,
     x: u8,
@@ -158,31 +68,14 @@ pub fn list_branch(
     depth: usize,
     mapping: &mut [u8],
 )
-    requires { ⌜ Known (now table) (now recorded) (now found) (now weights) (now rnear) (now rlabels) (now fnear) (now flabels) (now place) (now starts) ⌝ }
+    requires { ⌜ Ready (now table) (now recorded) (now found) (now plan) ⌝ }
     requires { ⌜ Lent (now recorded) (now found) (now work) ⌝ }
     requires { ⌜ (x ≢ noVertex → Subproblem (now recorded) (now found) c x v) ⌝ }
     requires { ⌜ Room (now recorded) c depth (now mapping) ⌝ }
     ensures { λ _. ⌜ Read (now (table .entry)) (now (recorded .entry)) (now (found .entry)) (now (work .entry)) c x v (now (mapping .entry)) (now (mapping .exit)) ⌝ }
 {
     if x != model::Limits::NONE {
-        list_pair(
-            table,
-            recorded,
-            found,
-            weights,
-            rnear,
-            rlabels,
-            fnear,
-            flabels,
-            place,
-            starts,
-            work,
-            c,
-            x,
-            v,
-            depth,
-            mapping,
-        );
+        list_pair(table, recorded, found, plan, work, c, x, v, depth, mapping);
     }
 }
 
@@ -203,19 +96,13 @@ pub fn read_out(
     table: &[u8],
     recorded: &[u8],
     found: &[u8],
-    weights: &[i32; 64],
-    rnear: &[[u8; 8]; 64],
-    rlabels: &[[u8; 8]; 64],
-    fnear: &[[u8; 8]; 64],
-    flabels: &[[u8; 8]; 64],
-    place: &[u8; 64],
-    starts: &[usize; 65],
+    plan: &[[u8; 8]; 512],
     work: &[i32],
     u: u8,
     v: u8,
     mapping: &mut [u8],
 )
-    requires { ⌜ Known (now table) (now recorded) (now found) (now weights) (now rnear) (now rlabels) (now fnear) (now flabels) (now place) (now starts) ⌝ }
+    requires { ⌜ Ready (now table) (now recorded) (now found) (now plan) ⌝ }
     requires { ⌜ Lent (now recorded) (now found) (now work) ⌝ }
     requires { ⌜ (u < count (now recorded)) × (v < count (now found)) ⌝ }
     requires { ⌜ count (now recorded) ≤ length (now mapping) ⌝ }
@@ -223,22 +110,5 @@ pub fn read_out(
 {
     let n = vertex_count(recorded);
     clear(mapping, n);
-    list_pair(
-        table,
-        recorded,
-        found,
-        weights,
-        rnear,
-        rlabels,
-        fnear,
-        flabels,
-        place,
-        starts,
-        work,
-        u,
-        v,
-        v,
-        n,
-        mapping,
-    );
+    list_pair(table, recorded, found, plan, work, u, v, v, n, mapping);
 }

@@ -1,3 +1,2 @@
-//! Reading a mapping out of work numbers, and its exact weight.
+//! Reading a mapping out of work numbers.
 pub mod cycle;
-pub mod weigh;

@@ -1,3 +1,3 @@
--- Where a certificate's records stand, as the arrays of a call hold it.
-pub mod Rows
+-- Where a certificate's records stand, as an array of a call holds it, and which subproblem each is of.
+pub mod Others
 pub mod Places

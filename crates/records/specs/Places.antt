@@ -1,287 +1,262 @@
--- The arrays that say where a certificate's records stand: what the functions that make them require, and the steps of their loops. Assumes nothing.
-use mathlib.Core.Path.{_≡_, refl, sym, ap, _∙_}
+-- Where a certificate's records stand: the array that says it, the steps of the loops that make it, where one record begins, and which subproblem it is
+-- of. Assumes nothing.
+use mathlib.Core.Path.{_≡_, refl, sym, ap, _∙_, subst}
 use mathlib.Core.Logic.{⊎-elim}
-use mathlib.Core.List.{List, []}
+use mathlib.Core.List.{List, [], _∷_}
 use Prim.Native.Nat.{ℕ, suc, _+_, _*_, _-_, _/_, _%_, _≤_, _<_}
 use native.Mathlib.Omega.{arith}
 use native.Mathlib.Numerals.{add-one}
-use native.Mathlib.Nat.{div-add-mod', mul-le-mul}
+use native.Mathlib.Nat.{mul-le-mul}
+use lib.Arith.{digits-div, digits-mod}
 use lib.ListN.{length, getD, set, length-set}
 use lib.Seq.{getD-set-same, getD-set-other}
-use lib.IntN.{ℤ}
 use Rattle.foundations.specs.Tests.{same?}
-use Rattle.model.specs.Calls.{inputItem}
-use Rattle.model.specs.Certificate.{squares, certificateLength, recordLength, recordAt}
+use Rattle.model.specs.Certificate.{squares, certificateLength, others, recordLength, recordAt}
 use Rattle.model.specs.Graph.{neighbours}
-use Rattle.model.specs.Order.{children, choices, width, subproblems, offset, uAt, vAt, sAt}
+use Rattle.model.specs.Limits.{vertexLimit, degreeLimit, widthLimit, squareLimit, certificateLimit}
+use Rattle.model.specs.Order.{children, choices, width, subproblems, offset, index, uAt, vAt, sAt}
 use Rattle.model.specs.Tree.{count}
-use Rattle.trees.specs.Accepted.{Sound, Whole}
+use Rattle.model.specs.Values.{Subproblem}
+use Rattle.trees.specs.Accepted.{Sound}
 use Rattle.trees.specs.Neighbours.{few-neighbours}
-use Rattle.trees.specs.Positions.{sub-at, position-of, offset-up, offset-all}
-use Rattle.formats.specs.Inputs.{Accepted, input-accepted}
+use Rattle.trees.specs.Positions.{sub-at, position-of, offset-up}
 use Rattle.certificate.specs.Length.{record-inside, length-most}
-use Rattle.certificate.specs.Places.{othersBefore, rowSize, record-place, row-step, record-begins, place-in, row-begins, squares-few}
-use Rattle.solver.specs.Plan.{Ready, Recorded, ready-sides}
-use Rattle.solver.specs.PlanLaws.{KidsTo, kids-are, Located}
-use Rattle.solver.specs.FillLaws.{choiceIn, number-low, number-u, number-v, number-s, number-sub, rest-in}
-use Rattle.records.specs.Rows.{Rows, PlaceOf}
+use Rattle.certificate.specs.Places.{othersBefore, rowSize, record-place, row-step, rows-end, record-begins, place-in, row-begins, squares-few}
+use Rattle.plan.specs.Plan.{childCountIn, orderIn, degreeIn, offsetIn, Ready}
+use Rattle.plan.specs.Numbers.{Located, ready-recorded, ready-sound, width-few, offset-width, offsets-are, number-u, number-v, number-s}
+
+-- ---- the array: row i says where the records of the i-th vertex in postorder begin, and what the squares of the degrees of the first i found vertices
+-- add up to
+
+abbrev pub beginIn : List (List ℕ) → ℕ → ℕ
+beginIn places i = getD (getD places i []) 0 0
+
+abbrev pub squaresIn : List (List ℕ) → ℕ → ℕ
+squaresIn places v = getD (getD places v []) 1 0
+
+-- the sums of squares up to vertex n
+pub record SquaresTo (f : List ℕ) (n : ℕ) (places : List (List ℕ)) : Type 0 where
+  pub long : length places ≡ 65
+  pub get : (v : ℕ) → v ≤ n → squaresIn places v ≡ squares f v
+
+-- all of them, and where the rows up to row n begin
+pub record PlacesTo (r f : List ℕ) (n : ℕ) (places : List (List ℕ)) : Type 0 where
+  pub long : length places ≡ 65
+  pub begins : (i : ℕ) → i ≤ n → beginIn places i ≡ recordAt r f (i * width f)
+  pub square : (v : ℕ) → v ≤ count f → squaresIn places v ≡ squares f v
 
 -- ---- what the functions require
 
--- the two trees pass items 1 to 12 with some table
-pub record Inputs (r f : List ℕ) : Type 0 where
+-- two trees that pass items 1 to 12 with some table, and their plan
+pub record Inputs (r f : List ℕ) (plan : List (List ℕ)) : Type 0 where
   pub table : List ℕ
-  pub passes : inputItem table r f ≡ 0
+  pub ready : Ready table r f plan
 
--- where the subproblems of each found vertex begin among those of one recorded vertex
-pub record Offsets (f starts : List ℕ) : Type 0 where
-  pub get : (v : ℕ) → v ≤ count f → getD starts v 0 ≡ offset f v
+-- and where their records stand
+pub record Laid (r f : List ℕ) (plan places : List (List ℕ)) : Type 0 where
+  pub inputs : Inputs r f plan
+  pub at : PlacesTo r f (count r) places
 
--- the sums of squares up to vertex n
-pub record SumsTo (f : List ℕ) (n : ℕ) (sums : List ℕ) : Type 0 where
-  pub long : length sums ≡ 65
-  pub get : (v : ℕ) → v ≤ n → getD sums v 0 ≡ squares f v
+-- the records of the i-th vertex in postorder begin at `first`, and have `own` bytes beside the duals of v's neighbours
+pub record RowBegins (r f : List ℕ) (i first own : ℕ) : Type 0 where
+  pub low : i < count r
+  pub begins : first ≡ recordAt r f (i * width f)
+  pub size : own ≡ rowSize r i
 
--- what the records of the first n vertices in postorder have beside the duals of v's neighbours
-pub record SizesTo (r : List ℕ) (n : ℕ) (sizes : List ℕ) : Type 0 where
-  pub long : length sizes ≡ 64
-  pub get : (i : ℕ) → i < n → getD sizes i 0 ≡ rowSize r i
+-- what the plan has of found vertex v
+pub record FoundKnown (f : List ℕ) (plan : List (List ℕ)) (v : ℕ) : Type 0 where
+  pub low : v < vertexLimit
+  pub degree : degreeIn plan v ≡ length (neighbours f v)
+  pub few : length (neighbours f v) ≤ degreeLimit
+  pub offset-low : offsetIn plan v ≤ widthLimit
 
--- where the rows up to row n begin
-pub record BeginsTo (r f : List ℕ) (n : ℕ) (begins : List ℕ) : Type 0 where
-  pub long : length begins ≡ 65
-  pub get : (i : ℕ) → i ≤ n → getD begins i 0 ≡ recordAt r f (i * width f)
+-- ---- no sum yet
 
--- all that says where records stand
-pub record Standing (r f starts begins sizes sums : List ℕ) : Type 0 where
-  pub inputs : Inputs r f
-  pub offsets : Offsets f starts
-  pub rows : Rows r f begins sizes sums
+pub squares-first : (f : List ℕ) → 0 ≡ squares f 0
+unfolding squares
+squares-first f = refl
 
--- and which subproblem each is
-pub record Laid (r f : List ℕ) (fnear : List (List ℕ)) (order starts begins sizes sums : List ℕ) : Type 0 where
-  pub table : List ℕ
-  pub numbers : List ℤ
-  pub rnear : List (List ℕ)
-  pub rlabels : List (List ℕ)
-  pub flabels : List (List ℕ)
-  pub place : List ℕ
-  pub ready : Ready table r f numbers rnear rlabels fnear flabels order place starts
-  pub rows : Rows r f begins sizes sums
-
--- ---- from what a call has read
-
-module _ {table r f : List ℕ} {numbers : List ℤ} {rnear rlabels fnear flabels : List (List ℕ)} {order place starts : List ℕ} (N : Ready table r f numbers rnear rlabels fnear flabels order place starts) where
-  pub ready-inputs : Inputs r f
-  ready-inputs = record { table = table; passes = N .passes }
-
-  pub ready-offsets : Offsets f starts
-  ready-offsets = record { get = N .found .offsets }
-
-  pub ready-standing : {begins sizes sums : List ℕ} → Rows r f begins sizes sums → Standing r f starts begins sizes sums
-  ready-standing R = record { inputs = ready-inputs; offsets = ready-offsets; rows = R }
-
-  pub ready-laid : {begins sizes sums : List ℕ} → Rows r f begins sizes sums → Laid r f fnear order starts begins sizes sums
-  ready-laid R = record { table = table; numbers = numbers; rnear = rnear; rlabels = rlabels; flabels = flabels; place = place; ready = N; rows = R }
-
-pub laid-standing : {r f : List ℕ} {fnear : List (List ℕ)} {order starts begins sizes sums : List ℕ} → Laid r f fnear order starts begins sizes sums → Standing r f starts begins sizes sums
-laid-standing L = ready-standing (L .ready) (L .rows)
+pub squares-none : (f : List ℕ) (places : List (List ℕ)) → length places ≡ 65 → squaresIn places 0 ≡ 0 → SquaresTo f 0 places
+squares-none f places e z = record { long = e; get = λ v h. let q : v ≡ 0 = omega arith in rw q (z ∙ squares-first f) }
 
 -- ---- of both trees
 
-module _ {r f : List ℕ} (I : Inputs r f) where
-  inputs-accepted : Accepted (I .table) r f
-  inputs-accepted = input-accepted (I .table) r f (I .passes)
+pub ready-inputs : {table r f : List ℕ} {plan : List (List ℕ)} → Ready table r f plan → Inputs r f plan
+ready-inputs {table} N = record { table = table; ready = N }
 
+module _ {r f : List ℕ} {plan : List (List ℕ)} (I : Inputs r f plan) where
   pub inputs-recorded : Sound r
-  inputs-recorded = record { K = _; L = _; passed = inputs-accepted .recorded }
+  inputs-recorded = ready-recorded (I .ready)
 
   pub inputs-found : Sound f
-  inputs-found = record { K = _; L = _; passed = inputs-accepted .found }
+  inputs-found = ready-sound (I .ready)
 
-  pub inputs-length : certificateLength r f ≤ 278736
-  inputs-length = length-most (I .table) r f (I .passes)
+  pub inputs-few : (count r ≤ vertexLimit) × (count f ≤ vertexLimit)
+  inputs-few = (inputs-recorded .passed .ends .few, inputs-found .passed .ends .few)
 
-  -- each record lies within the length
-  pub record-in : (k : ℕ) → k < subproblems r f → recordAt r f k + recordLength r f k ≤ certificateLength r f
-  record-in = record-inside (I .table) r f (I .passes)
+  pub inputs-length : certificateLength r f ≤ certificateLimit
+  inputs-length = length-most (I .table) r f (I .ready .passes)
 
-pub sound-whole : {s : List ℕ} → Sound s → Whole s (count s)
-sound-whole S = let e = S .passed .ends in record { some = e .some; few = e .few; long = e .long }
+  pub order-low : (i : ℕ) → i < count r → (orderIn plan i < count r) × (orderIn plan i < vertexLimit)
+  order-low i l =
+      let a : orderIn plan i < count r = rw (I .ready .planned .recorded i l .order) (position-of r (inputs-recorded .passed .ends) (inputs-recorded .passed .tree) i l .0) in
+      let b = inputs-few .0 in
+      (a, omega arith)
 
--- ---- the sums of squares
+  pub size-known : (i : ℕ) → i < count r → (i < vertexLimit) × (orderIn plan i < vertexLimit) × (childCountIn plan (orderIn plan i) ≤ degreeLimit)
+  size-known i l =
+      let u = order-low i l in
+      let K = I .ready .planned .recorded (orderIn plan i) (u .0) in
+      let b = inputs-few .0 in
+      (omega arith, u .1, rw (K .child-count) (K .few))
 
-pub sums-none : (f sums : List ℕ) → length sums ≡ 65 → getD sums 0 0 ≡ 0 → SumsTo f 0 sums
-unfolding squares
-sums-none f sums e z = record { long = e; get = λ v h. let q : v ≡ 0 = omega arith in rw q z }
-
--- the degree of v, from the offsets, and its square
-pub record DegreeOf (f starts : List ℕ) (v : ℕ) : Type 0 where
-  pub after : getD starts (v + 1) 0 ≡ getD starts v 0 + 1 + length (neighbours f v)
-  pub few : length (neighbours f v) ≤ 8
-  pub low : getD starts v 0 ≤ 190
-
-pub degree-of : {f starts : List ℕ} → Sound f → Offsets f starts → (v : ℕ) → v < count f → DegreeOf f starts v
-unfolding offset
-degree-of {f} {starts} S O v l =
-    let a = O .get v (omega arith) in
-    let b = O .get (v + 1) (omega arith) in
-    let c : offset f (v + 1) ≡ offset f v + suc (length (neighbours f v)) = rw (add-one v) in
-    let d : offset f v + length (choices f v) ≤ offset f (count f) = offset-up f v (count f) l in
-    let w : offset f (count f) ≡ 3 * count f - 2 = offset-all f (S .passed .ends) (S .passed .tree) ∙ (unfold width in refl) in
-    let n : count f ≤ 64 = S .passed .ends .few in
-    record { after = omega arith; few = few-neighbours f _ _ (S .passed) v l; low = omega arith }
-
-pub sums-more : {f sums : List ℕ} → Sound f → (v d x : ℕ) → v < count f → SumsTo f v sums → d ≡ length (neighbours f v) → x ≡ getD sums v 0 + d * d → SumsTo f (v + 1) (set sums (v + 1) x)
-unfolding squares
-sums-more {f} {sums} S v d x l B e g =
-    let n : length sums ≡ 65 = B .long in
-    let few : count f ≤ 64 = S .passed .ends .few in
-    let y : x ≡ squares f (v + 1) = g ∙ rw (add-one v, B .get v (omega arith), e) in
-    record {
-      long = length-set sums (v + 1) x ∙ n;
-      get = λ w h. ⊎-elim
-          (λ q. rw (q, getD-set-same sums (v + 1) x 0 (omega arith)) y)
-          (λ q. rw (getD-set-other sums (v + 1) w x 0 q) (B .get w (omega arith)))
-          (same? w (v + 1));
-    }
-
-pub sums-next : {f sums : List ℕ} → Sound f → (v d : ℕ) → v < count f → SumsTo f v sums → d ≡ length (neighbours f v) → getD sums v 0 + d * d ≤ 616
-unfolding squares
-sums-next {f} {sums} S v d l B e =
-    let a : squares f (suc v) ≤ 616 = squares-few f _ _ (S .passed) (suc v) l in
-    rw (B .get v (omega arith), e) a
-
-pub sums-last : {f sums : List ℕ} {m : ℕ} → m ≡ count f → SumsTo f (count f) sums → getD sums m 0 ≡ squares f (count f)
-sums-last {f} e B = rw e (B .get (count f) (omega arith))
-
--- ---- the sizes
-
-pub sizes-none : (r sizes : List ℕ) → length sizes ≡ 64 → SizesTo r 0 sizes
-sizes-none r sizes e = record { long = e; get = λ i h. absurd (omega arith) }
-
-pub sizes-more : {r sizes : List ℕ} → (i x : ℕ) → i < 64 → SizesTo r i sizes → x ≡ rowSize r i → SizesTo r (i + 1) (set sizes i x)
-sizes-more {r} {sizes} i x l B e =
-    let n : length sizes ≡ 64 = B .long in
-    record {
-      long = length-set sizes i x ∙ n;
-      get = λ w h. ⊎-elim
-          (λ q. rw (q, getD-set-same sizes i x 0 (omega arith)) e)
-          (λ q. rw (getD-set-other sizes i w x 0 q) (B .get w (omega arith)))
-          (same? w i);
-    }
-
-module _ {r : List ℕ} {near labels : List (List ℕ)} {order place : List ℕ} (S : Sound r) (R : Recorded r near labels order place) where
-  -- the children of a vertex, as `kids` counts them
-  pub kids-count : {u wide k : ℕ} {label base vertex : List ℕ} → u < count r → KidsTo (getD near u []) (getD labels u []) place (getD place u 0) wide 8 k label base vertex → (k ≡ length (children r u)) × (k ≤ 8)
-  kids-count {u} {wide} {k} {label} {base} {vertex} lu h =
-      let a = kids-are r _ _ (S .passed) place (R .placed) u wide k label base vertex lu (rw (R .neighbours, R .edges, R .placed u lu) at h) in
-      (a .used, a .few)
-
-  pub order-low : (i : ℕ) → i < count r → getD order i 0 < count r
-  order-low i l = rw (R .ordered i l) (position-of r (S .passed .ends) (S .passed .tree) i l .0)
-
-  pub order-size : (i x : ℕ) → i < count r → x ≡ 6 + 4 * length (children r (getD order i 0)) → x ≡ rowSize r i
+  pub size-is : (i : ℕ) → i < count r → 6 + 4 * childCountIn plan (orderIn plan i) ≡ rowSize r i
   unfolding rowSize
-  order-size i x l e = rw (R .ordered i l) at e
+  size-is i l = rw (I .ready .planned .recorded (orderIn plan i) (order-low i l .0) .child-count, I .ready .planned .recorded i l .order)
 
--- ---- where rows begin
+  pub found-known : (v : ℕ) → v < count f → FoundKnown f plan v
+  found-known v l =
+      let a = inputs-few .1 in
+      let b : offset f v + length (choices f v) ≤ offset f (count f) = offset-up f v (count f) l in
+      let c : offset f (count f) ≡ width f = offset-width inputs-found in
+      let d = width-few (I .ready) in
+      let P = I .ready .planned .found v l in
+      let o : offsetIn plan v ≡ offset f v = P .begins in
+      record { low = omega arith; degree = P .degree; few = few-neighbours f _ _ (inputs-found .passed) v l; offset-low = omega arith }
 
-module _ {r f : List ℕ} (I : Inputs r f) where
-  pub length-is : certificateLength r f ≡ 8 + 3 * count r + 6 * (count r * width f) + 4 * ((count r - 1) * width f) + 4 * (count r * squares f (count f))
-  unfolding certificateLength subproblems
-  length-is = refl
+  pub squares-next : (v d sum : ℕ) → v < count f → d ≡ degreeIn plan v → sum ≡ squares f v → (sum + d * d ≡ squares f (v + 1)) × (squares f (v + 1) ≤ squareLimit)
+  unfolding squares
+  squares-next v d sum l e g =
+      let D : d ≡ length (neighbours f v) = e ∙ I .ready .planned .found v l .degree in
+      (rw (add-one v, D, g), squares-few f _ _ (inputs-found .passed) (v + 1) (omega arith))
 
-  -- the length from its parts
-  pub length-parts : (n w q : ℕ) → n ≡ count r → w ≡ width f → q ≡ squares f (count f) → (8 + 3 * n + 6 * (n * w) + 4 * ((n - 1) * w) + 4 * (n * q) ≡ certificateLength r f) × (certificateLength r f ≤ 278736)
-  length-parts n w q a b c = (rw (a, b, c) (sym length-is), inputs-length I)
+  pub squares-more : {places : List (List ℕ)} (v x : ℕ) → v < count f → SquaresTo f v places → x ≡ squares f (v + 1) → SquaresTo f (v + 1) (set places (v + 1) (0 ∷ x ∷ []))
+  squares-more {places} v x l B e =
+      let n : length places ≡ 65 = B .long in
+      let few = inputs-few .1 in
+      record {
+        long = length-set places (v + 1) (0 ∷ x ∷ []) ∙ n;
+        get = λ w h. ⊎-elim
+            (λ q. rw (q, getD-set-same places (v + 1) (0 ∷ x ∷ []) [] (omega arith)) e)
+            (λ q. rw (getD-set-other places (v + 1) w (0 ∷ x ∷ []) [] q) (B .get w (omega arith)))
+            (same? w (v + 1));
+      }
 
-  pub begins-none : (begins : List ℕ) → length begins ≡ 65 → BeginsTo r f 0 (set begins 0 (8 + 3 * count r))
+  pub squares-last : {places : List (List ℕ)} (m : ℕ) → m ≡ count f → SquaresTo f (count f) places → squaresIn places m ≡ squares f (count f)
+  squares-last m e B = rw e (B .get (count f) (omega arith))
+
+  -- ---- where rows begin
+
+  pub places-first : (n : ℕ) → n ≡ count r → 8 + 3 * n ≡ recordAt r f (0 * width f)
   unfolding recordAt
-  begins-none begins e = record {
-    long = length-set begins 0 (8 + 3 * count r) ∙ e;
-    get = λ i h. let q : i ≡ 0 = omega arith in rw (q, getD-set-same begins 0 (8 + 3 * count r) 0 (omega arith)) (ap (recordAt r f) zero-mul);
-  }
+  places-first n e = rw e (ap (recordAt r f) zero-mul)
     where
       zero-mul : 0 ≡ 0 * width f
       zero-mul = omega arith
 
-  pub begins-step : {begins sizes sums : List ℕ} (i : ℕ) → i < count r → BeginsTo r f i begins → SizesTo r (count r) sizes → SumsTo f (count f) sums →
-      (getD begins i 0 + width f * getD sizes i 0 + 4 * getD sums (count f) 0 ≡ recordAt r f ((i + 1) * width f)) × (recordAt r f ((i + 1) * width f) ≤ 278736)
-  begins-step {begins} {sizes} {sums} i l B Z Q =
-      let a = row-step (I .table) r f (I .passes) i l in
-      let b = row-begins (I .table) r f (I .passes) (i + 1) (omega arith) in
-      (rw (B .get i (omega arith), Z .get i l, Q .get (count f) (omega arith)) (omega arith), b)
-
-  pub begins-more : {begins : List ℕ} (i x : ℕ) → i < count r → BeginsTo r f i begins → x ≡ recordAt r f ((i + 1) * width f) → BeginsTo r f (i + 1) (set begins (i + 1) x)
-  begins-more {begins} i x l B e =
-      let n : length begins ≡ 65 = B .long in
-      let few : count r ≤ 64 = inputs-recorded I .passed .ends .few in
+  pub places-none : {places : List (List ℕ)} (x : ℕ) → x ≡ recordAt r f (0 * width f) → SquaresTo f (count f) places → PlacesTo r f 0 (set places 0 (x ∷ 0 ∷ []))
+  places-none {places} x e B =
+      let n : length places ≡ 65 = B .long in
       record {
-        long = length-set begins (i + 1) x ∙ n;
-        get = λ w h. ⊎-elim
-            (λ q. rw (q, getD-set-same begins (i + 1) x 0 (omega arith)) e)
-            (λ q. rw (getD-set-other begins (i + 1) w x 0 q) (B .get w (omega arith)))
-            (same? w (i + 1));
+        long = length-set places 0 (x ∷ 0 ∷ []) ∙ n;
+        begins = λ i h. let q : i ≡ 0 = omega arith in rw (q, getD-set-same places 0 (x ∷ 0 ∷ []) [] (omega arith)) e;
+        square = λ v h. ⊎-elim
+            (λ q. rw (q, getD-set-same places 0 (x ∷ 0 ∷ []) [] (omega arith)) (squares-first f))
+            (λ q. rw (getD-set-other places 0 v (x ∷ 0 ∷ []) [] q) (B .get v h))
+            (same? v 0);
       }
 
-pub rows-of : {r f begins sizes sums : List ℕ} → BeginsTo r f (count r) begins → SizesTo r (count r) sizes → SumsTo f (count f) sums → Rows r f begins sizes sums
-unfolding rowSize
-rows-of B Z Q = record { begin = B .get; size = Z .get; square = Q .get }
+  pub places-next : (i w s q x : ℕ) → i < count r → w ≡ width f → s ≡ 6 + 4 * childCountIn plan (orderIn plan i) → q ≡ squares f (count f) → x ≡ recordAt r f (i * width f) →
+      (x + w * s + 4 * q ≡ recordAt r f ((i + 1) * width f)) × (recordAt r f ((i + 1) * width f) ≤ certificateLimit)
+  places-next i w s q x l ew es eq ex =
+      let a = row-step (I .table) r f (I .ready .passes) i l in
+      let b = row-begins (I .table) r f (I .ready .passes) (i + 1) (omega arith) in
+      (rw (ex, ew, es, eq, size-is i l) (omega arith), b)
+
+  pub places-more : {places : List (List ℕ)} (i x s : ℕ) → i < count r → PlacesTo r f i places → x ≡ recordAt r f ((i + 1) * width f) → s ≡ squaresIn places (i + 1) → PlacesTo r f (i + 1) (set places (i + 1) (x ∷ s ∷ []))
+  places-more {places} i x s l B e g =
+      let n : length places ≡ 65 = B .long in
+      let few = inputs-few .0 in
+      record {
+        long = length-set places (i + 1) (x ∷ s ∷ []) ∙ n;
+        begins = λ w h. ⊎-elim
+            (λ q. rw (q, getD-set-same places (i + 1) (x ∷ s ∷ []) [] (omega arith)) e)
+            (λ q. rw (getD-set-other places (i + 1) w (x ∷ s ∷ []) [] q) (B .begins w (omega arith)))
+            (same? w (i + 1));
+        square = λ v h. ⊎-elim
+            (λ q. rw (q, getD-set-same places (i + 1) (x ∷ s ∷ []) [] (omega arith)) (g ∙ B .square (i + 1) (omega arith)))
+            (λ q. rw (getD-set-other places (i + 1) v (x ∷ s ∷ []) [] q) (B .square v h))
+            (same? v (i + 1));
+      }
+
+  -- the last row ends with the certificate
+  pub places-end : {places : List (List ℕ)} → PlacesTo r f (count r) places → beginIn places (count r) ≡ certificateLength r f
+  places-end B = B .begins (count r) (omega arith) ∙ rows-end (I .table) r f (I .ready .passes)
 
 -- ---- where a record begins
 
-pub before-small : (d q : ℕ) → d ≤ 8 → q ≤ d → (q - 1) * (d - 1) ≤ 49
+pub before-small : (d q : ℕ) → d ≤ degreeLimit → q ≤ d → (q - 1) * (d - 1) ≤ 49
 before-small d q a b = mul-le-mul {n₁ = q - 1} {m₁ = d - 1} {n₂ = 7} {m₂ = 7} (omega arith) (omega arith)
 
-module _ {r f starts begins sizes sums : List ℕ} (S : Standing r f starts begins sizes sums) where
-  pub standing-degree : (v : ℕ) → v < count f → DegreeOf f starts v
-  standing-degree = degree-of (inputs-found (S .inputs)) (S .offsets)
+module _ {r f : List ℕ} {plan places : List (List ℕ)} (L : Laid r f plan places) where
+  -- the row of the i-th vertex, as the arrays have it
+  pub row-at : (i first own : ℕ) → i < count r → first ≡ beginIn places i → own ≡ 6 + 4 * childCountIn plan (orderIn plan i) → RowBegins r f i first own
+  row-at i first own l a b = record { low = l; begins = a ∙ L .at .begins i (omega arith); size = b ∙ size-is (L .inputs) i l }
 
   -- the parts' sum is the place, and it is small
-  pub stands-at : (i v q b : ℕ) → i < count r → v < count f → q ≤ length (neighbours f v) → b ≡ othersBefore (length (neighbours f v)) q →
-      (getD begins i 0 + (getD starts v 0 + q) * getD sizes i 0 + 4 * (getD sums v 0 + b) ≡ recordAt r f (i * width f + (offset f v + q))) × (recordAt r f (i * width f + (offset f v + q)) + 6 ≤ 278736)
-  unfolding rowSize
-  stands-at i v q b li lv lq e =
-      let p = record-place (S .inputs .table) r f (S .inputs .passes) i v q li lv lq in
-      let m = record-begins (S .inputs .table) r f (S .inputs .passes) (i * width f + (offset f v + q)) (place-in (S .inputs .table) r f (S .inputs .passes) i v q li lv lq) in
-      (rw (S .rows .begin i (omega arith), S .offsets .get v (omega arith), S .rows .size i li, S .rows .square v (omega arith), e) (omega arith), m)
+  pub stands-at : {i first own : ℕ} (v q d o s b : ℕ) → RowBegins r f i first own → v < count f → q ≤ length (neighbours f v) → d ≡ degreeIn plan v → o ≡ offsetIn plan v → s ≡ squaresIn places v → b ≡ othersBefore d q →
+      (first + (o + q) * own + 4 * (s + b) ≡ recordAt r f (i * width f + (offset f v + q))) × (recordAt r f (i * width f + (offset f v + q)) + 6 ≤ certificateLimit)
+  stands-at {i} {first} {own} v q d o s b R lv lq ed eo es eb =
+      let passes = L .inputs .ready .passes in
+      let table = L .inputs .table in
+      let p = record-place table r f passes i v q (R .low) lv lq in
+      let m = record-begins table r f passes (i * width f + (offset f v + q)) (place-in table r f passes i v q (R .low) lv lq) in
+      (rw (R .begins, R .size, eo, es, eb, ed, L .inputs .ready .planned .found v lv .degree, L .inputs .ready .planned .found v lv .begins, L .at .square v (omega arith)) (omega arith), m)
 
--- ---- which subproblem has number k
+-- ---- which subproblem's it is
 
-module _ {r f : List ℕ} {fnear : List (List ℕ)} {order starts begins sizes sums : List ℕ} (L : Laid r f fnear order starts begins sizes sums) where
-  pub laid-found : Sound f
-  laid-found = inputs-found (ready-inputs (L .ready))
+-- number k is that of the i-th vertex u in postorder, v, and s, the q-th choice for v
+pub record NumberAt (r f : List ℕ) (u v s k : ℕ) : Type 0 where
+  pub low : k < subproblems r f
+  pub u-is : uAt r f k ≡ u
+  pub v-is : vAt f k ≡ v
+  pub s-is : sAt f k ≡ s
+  pub sub : Subproblem r f u v s
+  pub number : index r f u v s ≡ k
+  pub long : recordLength r f k ≡ 6 + 4 * length (children r u) + 4 * length (others f v s)
+  pub inside : recordAt r f k + (6 + 4 * length (children r u) + 4 * length (others f v s)) ≤ certificateLength r f
 
-  pub laid-row : (k : ℕ) → k < subproblems r f → (k / width f < count r) × (k / width f < 64)
-  laid-row = number-low (ready-sides (L .ready))
-
-  pub laid-rest : (k m v : ℕ) → m ≡ count f → Located starts m (k % width f) v → (v < count f) × (getD starts v 0 ≡ offset f v) × (offset f v ≤ k % width f) × (k % width f - offset f v ≤ length (neighbours f v)) × (length (neighbours f v) ≤ 8)
-  laid-rest = rest-in (ready-sides (L .ready))
-
-  pub laid-place : (k m v q s here : ℕ) → k < subproblems r f → m ≡ count f → Located starts m (k % width f) v → q ≡ k % width f - getD starts v 0 → s ≡ choiceIn (getD fnear v []) v q →
-      here ≡ recordAt r f (k / width f * width f + (offset f v + q)) → PlaceOf r f k (k / width f) (getD order (k / width f) 0) v q s here
-  unfolding uAt sAt
-  laid-place k m v q s here l em lo eq es eh =
-      let N = L .ready in
-      let W = ready-sides N in
-      let A = input-accepted (L .table) r f (N .passes) in
-      let t = rest-in W k m v em lo in
-      let u-at = number-u N k l in
-      let v-at : v ≡ vAt f k = number-v W k m v em lo in
-      let s-at : s ≡ sAt f k = es ∙ number-s W k m v q em lo eq in
-      let q-at : q ≡ k % width f - offset f v = rw (t .1) at eq in
-      let back : k / width f * width f + (offset f v + q) ≡ k = (let d = div-add-mod' k (width f) in omega (arith, t .2)) in
-      let sub = sub-at r f (A .recorded .ends) (A .recorded .tree) (A .found .ends) (A .found .tree) k l in
+module _ {table r f : List ℕ} {plan : List (List ℕ)} (N : Ready table r f plan) where
+  pub number-at : (i v q : ℕ) → i < count r → v < count f → q ≤ length (neighbours f v) → NumberAt r f (orderIn plan i) v (getD (choices f v) q 0) (i * width f + (offset f v + q))
+  unfolding offset recordLength
+  number-at i v q li lv lq =
+      let k = i * width f + (offset f v + q) in
+      let s = getD (choices f v) q 0 in
+      let r-sound = ready-recorded N in
+      let f-sound = ready-sound N in
+      let a : offset f v + length (choices f v) ≤ offset f (count f) = offset-up f v (count f) lv in
+      let b : offset f (count f) ≡ width f = offset-width f-sound in
+      let h : offset f v + q < width f = omega arith in
+      let o : offsetIn plan v ≡ offset f v = offsets-are N v lv in
+      let step : offset f (v + 1) ≡ offset f v + suc (length (neighbours f v)) = rw (add-one v) in
+      let z : Located (offsetIn plan) (count f) (offset f v + q) v = record { low = lv; from = λ h. omega arith; upto = λ h. let o1 = offsets-are N (v + 1) (omega arith) in omega arith } in
+      let m : k % width f ≡ offset f v + q = digits-mod i h in
+      let d : k / width f ≡ i = digits-div i h in
+      let low : k < subproblems r f = place-in table r f (N .passes) i v q li lv lq in
+      let lo : Located (offsetIn plan) (count f) (k % width f) v = rw m z in
+      let eu : uAt r f k ≡ orderIn plan i = sym (number-u N k low) ∙ ap (λ (x : ℕ). orderIn plan x) d in
+      let ev : vAt f k ≡ v = number-v N k (count f) v refl lo in
+      let es : sAt f k ≡ s = number-s N k (count f) v q refl lo (rw m (omega arith)) in
+      let S = sub-at r f (r-sound .passed .ends) (r-sound .passed .tree) (f-sound .passed .ends) (f-sound .passed .tree) k low in
+      let s-sub : Subproblem r f (uAt r f k) (vAt f k) (sAt f k) = record { u-low = S .u-low; v-low = S .v-low; s-in = S .s-in } in
+      let g : recordLength r f k ≡ 6 + 4 * length (children r (orderIn plan i)) + 4 * length (others f v s) = rw (eu, ev, es) in
       record {
-        row-low = number-low W k l .0;
-        u-row = u-at;
-        u-is = u-at;
-        v-is = v-at;
-        s-is = s-at;
-        q-low = omega (arith, t .3);
-        s-choice = rw (← v-at, ← q-at) at s-at;
-        sub = rw (u-at, v-at, s-at) (number-sub W k l);
-        number = rw (u-at, v-at, s-at) (sym (sub .here));
-        begins = rw back at eh;
+        low = low;
+        u-is = eu;
+        v-is = ev;
+        s-is = es;
+        sub = rw (eu, ev, es) at s-sub;
+        number = rw (eu, ev, es) at (S .here);
+        long = g;
+        inside = subst (λ (x : ℕ). recordAt r f k + x ≤ certificateLength r f) g (record-inside table r f (N .passes) k low);
       }

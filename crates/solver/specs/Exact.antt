@@ -8,17 +8,18 @@ use native.Mathlib.Omega.{arith}
 use lib.ListN.{length, getD}
 use lib.IntN.{ℤ, pos, negsuc}
 use lib.Dec.{T, eqb, ltb}
-use borrow.Author.Tests.{lt-ltb, le-ltb, ltb-true, ltb-false, ne-eqb}
-use Rattle.foundations.specs.Tests.{same, less?, eqb-same, T→true}
-use Rattle.foundations.specs.Int.{up, int, canon}
+use borrow.Author.Tests.{lt-ltb, le-ltb, ltb-true, ltb-false, eq-eqb, ne-eqb}
+use Rattle.foundations.specs.Tests.{same, same?, less?, eqb-same, T→true}
+use Rattle.foundations.specs.Int.{int, canon}
 use Rattle.foundations.specs.Sums.{sum, pick, lsum, sum-first}
 use Rattle.foundations.specs.Members.{mem, mem-nil, mem-here, mem-there, mem-cases, mem-ne, getD-mem, Distinct, del, mem-del, del-mem, lsum-ext, mem-occ, distinct-occ, place, place-low, place-at, place-one}
 use Rattle.model.specs.Weights.{Weight, none, some, _⊑_, plusW, maxW}
 use Rattle.model.specs.Values.{greatest, best}
 use Rattle.subtrees.specs.WeightLaws.{⊑-antisym, max-either}
 use Rattle.subtrees.specs.Matching.{Assign, gain, best-bounds}
-use Rattle.assignment.specs.Matching.{gained, weight}
+use Rattle.assignment.specs.Matching.{gained, weight, Injective}
 use Rattle.assignment.specs.State.{Solved}
+use Rattle.plan.specs.Pairs.{upW}
 
 -- ---- places of a list without repeats
 
@@ -34,6 +35,16 @@ place-of l i d h = place-one (getD l i 0) l i (distinct-occ (getD l i 0) l d) h 
 -- two places with the same element are the same
 at-once : (l : List ℕ) (i j : ℕ) → Distinct l → i < length l → j < length l → getD l i 0 ≡ getD l j 0 → i ≡ j
 at-once l i j d hi hj e = sym (place-of l i d hi) ∙ ap (λ (x : ℕ). place x l) e ∙ place-of l j d hj
+
+-- s is the element before place c, or no element where c is 0
+pub left-of : (l : List ℕ) (s c : ℕ) → Distinct l → c ≤ length l → (c ≡ 0 → (j : ℕ) → j < length l → getD l j 0 ≡ s → ⊥) → ((j : ℕ) → c ≡ j + 1 → getD l j 0 ≡ s) → (j : ℕ) → j < length l → eqb (getD l j 0) s ≡ eqb (j + 1) c
+left-of l s zero d b bare here j h = ne-eqb (getD l j 0) s (bare refl j h) ∙ sym (ne-eqb (j + 1) 0 (λ e. omega arith))
+left-of l s (suc c) d b bare here j h =
+    let e : getD l c 0 ≡ s = here c (omega arith) in
+    ⊎-elim
+    (λ q. eq-eqb (getD l j 0) s (ap (λ (x : ℕ). getD l x 0) q ∙ e) ∙ sym (eq-eqb (j + 1) (suc c) (omega arith)))
+    (λ n. ne-eqb (getD l j 0) s (λ q. n (at-once l j c d h b (q ∙ sym e))) ∙ sym (ne-eqb (j + 1) (suc c) (λ q. n (omega arith))))
+    (same? j c)
 
 -- ---- sums of natural numbers over a list
 
@@ -109,11 +120,6 @@ best-most w a b (c ∷ cs) A C =
 
 -- ---- gains
 
--- the greater of 0 and a weight, and 0 where it is forbidden
-unfoldable pub upW : Weight → ℕ
-upW none = 0
-upW (some z) = up z
-
 -- the gain of a branch: none where its column is s
 unfoldable pub branchGain : (ℕ → ℕ → Weight) → ℕ → ℕ → ℕ → ℕ
 branchGain w s c x = cond (eqb x s) 0 (upW (w c x))
@@ -167,7 +173,16 @@ pub record Chosen (cs A : List ℕ) (g : ℕ → ℕ → ℕ) (m : ℕ → ℕ) 
   pub yes : (c : ℕ) → T (mem c cs) → T (on c) → 0 < rowGain cs A g m c
   pub no : (c : ℕ) → T (mem c cs) → on c ≡ false → rowGain cs A g m c ≡ 0
 
-module _ (w : ℕ → ℕ → Weight) (s : ℕ) (cs A : List ℕ) (g : ℕ → ℕ → ℕ) (y z m : ℕ → ℕ) (G : Gains w s cs A g) (S : Solved (length cs) (length A) g y z m) (dc : Distinct cs) (dA : Distinct A) where
+-- duals that cover every gain, and a matching that weighs as much as they
+pub record Dual (k l : ℕ) (g : ℕ → ℕ → ℕ) (y z m : ℕ → ℕ) : Type 0 where
+  pub feasible : (i j : ℕ) → i < k → j < l → g i j ≤ y i + z j
+  pub injective : Injective k l m
+  pub equal : weight k l g m ≡ sum k y + sum l z
+
+pub solved-dual : {k l : ℕ} {g : ℕ → ℕ → ℕ} {y z m : ℕ → ℕ} → Solved k l g y z m → Dual k l g y z m
+solved-dual S = record { feasible = S .feasible; injective = S .injective; equal = S .equal }
+
+module _ (w : ℕ → ℕ → Weight) (s : ℕ) (cs A : List ℕ) (g : ℕ → ℕ → ℕ) (y z m : ℕ → ℕ) (G : Gains w s cs A g) (S : Dual (length cs) (length A) g y z m) (dc : Distinct cs) (dA : Distinct A) where
   -- a row with a gain has a column, and the gain is its branch's
   row-branch : (c : ℕ) → T (mem c cs) → 0 < rowGain cs A g m c → (m (place c cs) < length A) × (columnOf cs A m c ≢ s) × (w c (columnOf cs A m c) ≡ some (pos (rowGain cs A g m c)))
   unfolding columnOf rowGain
@@ -232,3 +247,9 @@ module _ (w : ℕ → ℕ → Weight) (s : ℕ) (cs A : List ℕ) (g : ℕ → �
   -- and what any choice of the rows with a gain weighs
   pub chosen-best : (on : ℕ → Bool) → Chosen cs A g m on → best w cs (del s A) ≡ some (gain cs on (λ c. pos (rowGain cs A g m c)))
   chosen-best on N = solved-best ∙ ap some (ap pos (sym (S .equal)) ∙ sym (chosen-gain on N))
+
+-- a vertex without children
+pub best-none : (w : ℕ → ℕ → Weight) (cs A : List ℕ) → length cs ≡ 0 → best w cs A ≡ some (pos 0)
+unfolding best
+best-none w [] A e = refl
+best-none w (c ∷ cs) A e = absurd (omega arith)

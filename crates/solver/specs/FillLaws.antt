@@ -1,39 +1,35 @@
 -- From a subproblem's number to its three vertices as the code finds them, and the steps of filling. Assumes nothing.
-use mathlib.Core.Path.{_≡_, refl, sym, ap, _∙_}
-use mathlib.Core.Logic.{⊎-elim}
-use mathlib.Core.List.{List, [], _∷_}
-use Prim.Native.Nat.{ℕ, zero, suc, _+_, _-_, _*_, _/_, _%_, _≤_, _<_}
+use mathlib.Core.Path.{_≡_, refl, sym, ap, _∙_, subst}
+use mathlib.Core.Logic.{inl}
+use mathlib.Core.Bool.{true, false}
+use mathlib.Core.List.{List}
+use Prim.Native.Nat.{ℕ, zero, suc, _+_, _-_, _*_, _/_, _%_, _≤_, _<_, min}
 use native.Mathlib.Omega.{arith}
 use native.Mathlib.Numerals.{add-one}
-use native.Mathlib.Nat.{div-lt-iff-lt-mul, div-add-mod', mod-lt, mul-le-mul}
+use native.Mathlib.Nat.{div-add-mod', mod-lt, add-zero, le-min, min-le-left, min-le-right}
 use lib.Arith.{digits-div, digits-mod}
-use lib.ListN.{length, getD, set}
+use lib.ListN.{length, getD, set, length-set}
+use lib.Dec.{T, eqb}
 use lib.IntN.{ℤ}
-use Rattle.foundations.specs.Tests.{same?}
+use Rattle.foundations.specs.Members.{mem, mem-there, mem-ne, getD-mem, del, del-mem}
+use Rattle.model.specs.Limits.{forbidden, widthLimit}
+use Rattle.model.specs.Weights.{isForbidden, weighed, stored, plusW}
 use Rattle.model.specs.Tree.{count}
 use Rattle.model.specs.Graph.{neighbours}
-use Rattle.model.specs.Order.{postorder, offset, width, choices, subproblems, uAt, vAt, sAt}
-use Rattle.model.specs.Values.{Subproblem, solveAt, solve, fill}
-use Rattle.trees.specs.Neighbours.{few-neighbours, neighbour-at}
-use Rattle.trees.specs.Positions.{sub-at, offset-all}
-use Rattle.formats.specs.Inputs.{Accepted}
-use Rattle.subtrees.specs.Filling.{length-fill, fill-more}
-use Rattle.solver.specs.Plan.{Ready, Sides, Lent, ready-sides}
-use Rattle.solver.specs.PlanLaws.{Located, located-is}
-use Rattle.solver.specs.Branches.{sides-accepted}
-
--- the q-th choice of s for v: v itself, then the places of its row
-unfoldable pub choiceIn : List ℕ → ℕ → ℕ → ℕ
-choiceIn row v q = getD (v ∷ row) q 0
-
-pub choice-first : (row : List ℕ) (v q : ℕ) → q ≡ 0 → v ≡ choiceIn row v q
-unfolding choiceIn
-choice-first row v q e = rw e
-
-pub choice-later : (row : List ℕ) (v q : ℕ) → (q ≡ 0 → ⊥) → getD row (q - 1) 0 ≡ choiceIn row v q
-unfolding choiceIn
-choice-later row v zero n = absurd (n refl)
-choice-later row v (suc q) n = let e : suc q - 1 ≡ q = omega arith in rw e
+use Rattle.model.specs.Order.{children, postorder, offset, width, choices, index, subproblems, uAt, vAt, sAt}
+use Rattle.model.specs.Pairs.{edgePair}
+use Rattle.model.specs.Values.{branch, recalled, solveAt, solve, fill}
+use Rattle.trees.specs.Neighbours.{few-neighbours, once-neighbours, mem-adjacent, adjacent-mem, adjacent-back}
+use Rattle.trees.specs.Rooted.{no-self, child-of, once-children}
+use Rattle.trees.specs.Positions.{sub-at, index-child}
+use Rattle.assignment.specs.Matching.{cell}
+use Rattle.subtrees.specs.Matching.{best-ext}
+use Rattle.subtrees.specs.Filling.{length-fill, fill-more, fill-keeps, solve-forbidden, solve-stored}
+use Rattle.plan.specs.Plan.{childCountIn, degreeIn, offsetIn, orderIn, Ready, Lent, Pair}
+use Rattle.plan.specs.Numbers.{Located, ready-accepted, width-some, width-few, number-u, offsets-are, rest-in, number-v, number-s}
+use Rattle.plan.specs.Pairs.{VertexPair, gainAt, Filled, weighed-none, weighed-number, children-few, degree-few}
+use Rattle.solver.specs.Exact.{left-of, best-none}
+use Rattle.solver.specs.Heaviest.{Table, HeaviestMatching, Stands, heaviest-best}
 
 -- count subproblems from number `from` on, all of u; `rest` stands at the first
 pub record RowRun (r f : List ℕ) (u rest from n : ℕ) : Type 0 where
@@ -43,127 +39,164 @@ pub record RowRun (r f : List ℕ) (u rest from n : ℕ) : Type 0 where
   pub left : (i : ℕ) → i < n → (from + i) % width f ≡ rest + i
 
 -- and all of v; the first has the q-th choice of s
-pub record PairRun (r f starts : List ℕ) (u v q from n : ℕ) : Type 0 where
-  pub u-low : u < count r
-  pub v-low : v < count f
+pub record PairRun (r f : List ℕ) (u v q from n : ℕ) : Type 0 where
+  pub pair : Pair r f u v
   pub enough : from + n ≤ subproblems r f
   pub whose : (i : ℕ) → i < n → uAt r f (from + i) ≡ u
-  pub located : (i : ℕ) → i < n → Located starts (count f) ((from + i) % width f) v
-  pub choice : (i : ℕ) → i < n → q + i ≡ (from + i) % width f - getD starts v 0
+  pub where-v : (i : ℕ) → i < n → vAt f (from + i) ≡ v
+  pub which-s : (i : ℕ) → i < n → sAt f (from + i) ≡ getD (choices f v) (q + i) 0
+  pub choice : (i : ℕ) → i < n → q + i ≤ length (neighbours f v)
 
-module _ {table r f : List ℕ} {numbers : List ℤ} {fnear flabels : List (List ℕ)} {starts : List ℕ} (N : Sides table r f numbers fnear flabels starts) where
-  accepted : Accepted table r f
-  accepted = sides-accepted N
+-- the lesser of two numbers above 0
+pub lesser-is : {a b r : ℕ} → r ≡ min a b → 1 ≤ a → 1 ≤ b → (1 ≤ r) × (r ≤ a) × (r ≤ b)
+lesser-is {a} {b} e h k = rw e (le-min h k, min-le-left a b, min-le-right a b)
 
-  width-some : 1 ≤ width f
-  width-some = unfold width in (let a : 1 ≤ count f = accepted .found .ends .some in omega arith)
+-- ---- a choice of s, and the column that it leaves out
 
-  pub number-low : (p : ℕ) → p < subproblems r f → (p / width f < count r) × (p / width f < 64)
-  unfolding subproblems
-  number-low p h =
-      let a : p / width f < count r = div-lt-iff-lt-mul width-some .1 h in
-      let few : count r ≤ 64 = accepted .recorded .ends .few in
-      (a, omega arith)
+choice-left : (f : List ℕ) (v c : ℕ) → mem v (neighbours f v) ≡ false → c ≤ length (neighbours f v) → (j : ℕ) → j < length (neighbours f v) → eqb (getD (neighbours f v) j 0) (getD (choices f v) c 0) ≡ eqb (j + 1) c
+choice-left f v c out h = left-of (neighbours f v) (getD (choices f v) c 0) c (once-neighbours f v) h
+    (λ z j hj e. mem-ne (getD (neighbours f v) j 0) v (neighbours f v) out (getD-mem (neighbours f v) j hj) (e ∙ ap (λ (x : ℕ). getD (choices f v) x 0) z))
+    (λ j e. sym (ap (λ (x : ℕ). getD (choices f v) x 0) (e ∙ add-one j)))
 
-  pub number-v : (p m v : ℕ) → m ≡ count f → Located starts m (p % width f) v → v ≡ vAt f p
-  unfolding vAt
-  number-v p m v e l = sym (located-is f _ _ (accepted .found) starts (N .found .offsets) m (p % width f) v e l)
+-- ---- the same number repeated
 
-  -- the rest of the number lies among v's
-  pub rest-in : (p m v : ℕ) → m ≡ count f → Located starts m (p % width f) v → (v < count f) × (getD starts v 0 ≡ offset f v) × (offset f v ≤ p % width f) × (p % width f - offset f v ≤ length (neighbours f v)) × (length (neighbours f v) ≤ 8)
-  unfolding offset
-  rest-in p m v e l =
-      let low : v < m = l .low in
-      let lv : v < count f = omega arith in
-      let w : p % width f < width f = mod-lt p width-some in
-      let all : offset f (count f) ≡ width f = offset-all f (accepted .found .ends) (accepted .found .tree) in
-      let o : getD starts v 0 ≡ offset f v = N .found .offsets v (omega arith) in
-      let o1 : getD starts (v + 1) 0 ≡ offset f (v + 1) = N .found .offsets (v + 1) (omega arith) in
-      let one : offset f (v + 1) ≡ offset f v + suc (length (neighbours f v)) = rw (add-one v) in
-      let from : offset f v ≤ p % width f = ⊎-elim (λ z. rw z (omega arith)) (λ z. let a : getD starts v 0 ≤ p % width f = l .from (omega arith) in omega arith) (same? v 0) in
-      let upto : p % width f < offset f (v + 1) = ⊎-elim (λ z. let g : offset f (v + 1) ≡ offset f (count f) = ap (offset f) (z ∙ e) in omega arith) (λ z. let a : p % width f < getD starts (v + 1) 0 = l .upto (omega arith) in omega arith) (same? (v + 1) m) in
-      let d : length (neighbours f v) ≤ 8 = few-neighbours f _ _ (accepted .found) v lv in
-      (lv, o, from, omega arith, d)
+unfoldable pub repeated : List ℤ → ℕ → ℕ → ℤ → List ℤ
+repeated work k zero x = work
+repeated work k (suc c) x = set (repeated work k c x) (k + c) x
 
-  pub number-s : (p m v q : ℕ) → m ≡ count f → Located starts m (p % width f) v → q ≡ p % width f - getD starts v 0 → choiceIn (getD fnear v []) v q ≡ sAt f p
-  unfolding sAt
-  number-s p m v q e l h =
-      let a = rest-in p m v e l in
-      let b : q ≡ p % width f - offset f v = rw (← a .1) h in
-      rw (← number-v p m v e l, ← b) (pick q (omega (arith, a .3)))
-    where
-      pick : (q : ℕ) → q ≤ length (neighbours f v) → choiceIn (getD fnear v []) v q ≡ getD (choices f v) q 0
-      pick zero g = unfold choiceIn in refl
-      pick (suc q) g = unfold choiceIn in rw (N .found .neighbours) (neighbour-at f _ _ (accepted .found) v q (rest-in p m v e l .0) g)
+pub repeated-none : (work : List ℤ) (k : ℕ) (x : ℤ) → work ≡ repeated work k 0 x
+unfolding repeated
+repeated-none work k x = refl
 
-  pub number-sub : (p : ℕ) → p < subproblems r f → Subproblem r f (uAt r f p) (vAt f p) (sAt f p)
-  number-sub p h =
-      let a = accepted in
-      let q = sub-at r f (a .recorded .ends) (a .recorded .tree) (a .found .ends) (a .found .tree) p h in
-      record { u-low = q .u-low; v-low = q .v-low; s-in = q .s-in }
+pub repeated-next : (work w : List ℤ) (k c : ℕ) (x : ℤ) → w ≡ repeated work k c x → set w (k + c) x ≡ repeated work k (c + 1) x
+unfolding repeated
+repeated-next work w k c x e = rw (add-one c, e)
 
-  width-few : width f ≤ 190
-  width-few = unfold width in (let a : count f ≤ 64 = accepted .found .ends .few in omega arith)
+pub length-repeated : (work : List ℤ) (k c : ℕ) (x : ℤ) → length (repeated work k c x) ≡ length work
+unfolding repeated
+length-repeated work k zero x = refl
+length-repeated work k (suc c) x = length-set (repeated work k c x) (k + c) x ∙ length-repeated work k c x
 
-  pub number-few : subproblems r f ≤ 12160
-  unfolding subproblems
-  number-few = let a : count r ≤ 64 = accepted .recorded .ends .few in let h : count r * width f ≤ 64 * 190 = mul-le-mul a width-few in omega arith
+fill-repeated : (table r f : List ℕ) (work : List ℤ) (k n : ℕ) (x : ℤ) → ((i : ℕ) → i < n → (w : List ℤ) → solve table r f w (k + i) ≡ x) → repeated work k n x ≡ fill table r f work k n
+unfolding repeated fill
+fill-repeated table r f work k zero x h = refl
+fill-repeated table r f work k (suc n) x h = rw (fill-repeated table r f work k n x (λ i l. h i (omega arith)), h n (omega arith) (fill table r f work k n))
 
-  -- one of a run of u and v
-  pub run-choice : {u v q from n : ℕ} → PairRun r f starts u v q from n → (i : ℕ) → i < n → q + i ≤ 8
-  run-choice {u} {v} {q} {from} R i h =
-      let a = rest-in (from + i) (count f) v refl (R .located i h) in
-      let e : q + i ≡ (from + i) % width f - getD starts v 0 = R .choice i h in
-      omega (arith, a .1, a .3, a .4)
+module _ {table r f : List ℕ} {plan : List (List ℕ)} (N : Ready table r f plan) where
+  -- ---- a pair's table of gains stands for its choice c of s
 
-  pub run-sub : {u v q from n s : ℕ} → PairRun r f starts u v q from n → (i : ℕ) → i < n → s ≡ choiceIn (getD fnear v []) v (q + i) → Subproblem r f u v s
-  run-sub {u} {v} {q} {from} {n} {s} R i h e =
-      let p : from + i < subproblems r f = (let m = R .enough in omega arith) in
-      let ev : v ≡ vAt f (from + i) = number-v (from + i) (count f) v refl (R .located i h) in
-      let es : s ≡ sAt f (from + i) = e ∙ number-s (from + i) (count f) v (q + i) refl (R .located i h) (R .choice i h) in
-      rw (← R .whose i h, ev, es) (number-sub (from + i) p)
+  pub choice-stands : {u v : ℕ} → Pair r f u v → (work : List ℤ) (g : List ℕ) (k l c : ℕ) → k ≡ childCountIn plan u → l ≡ degreeIn plan v → Filled (length (children r u)) (length (neighbours f v)) (gainAt table r f (recalled r f work) u v) g → c ≤ length (neighbours f v)
+      → Stands k l c (branch table r f (recalled r f work) u v) (getD (choices f v) c 0) (children r u) (neighbours f v) (cell g)
+  unfolding gainAt
+  choice-stands {u} {v} Q work g k l c ek el D h =
+      let a : k ≡ length (children r u) = ek ∙ N .planned .recorded u (Q .u-low) .child-count in
+      let b : l ≡ length (neighbours f v) = el ∙ N .planned .found v (Q .v-low) .degree in
+      record {
+        rows = sym a;
+        columns = sym b;
+        rows-apart = once-children r u;
+        columns-apart = once-neighbours f v;
+        left = λ j hj. choice-left f v c (no-self f (ready-accepted N .found .ends) (ready-accepted N .found .tree) v (Q .v-low)) h j (omega arith);
+        gains = λ x y hx hy. D .get x y (omega arith) (omega arith) .0;
+      }
 
-  pub run-solve : {u v q from n s : ℕ} → PairRun r f starts u v q from n → (i : ℕ) → i < n → s ≡ choiceIn (getD fnear v []) v (q + i) → (work : List ℤ) (x : ℤ) → x ≡ solveAt table r f work u v s → x ≡ solve table r f work (from + i)
-  unfolding solve
-  run-solve {u} {v} {q} {from} {n} {s} R i h e work x d =
-      let ev : vAt f (from + i) ≡ v = sym (number-v (from + i) (count f) v refl (R .located i h)) in
-      let es : sAt f (from + i) ≡ s = sym (e ∙ number-s (from + i) (count f) v (q + i) refl (R .located i h) (R .choice i h)) in
-      rw (R .whose i h, ev, es) d
+  -- ---- one of a run of u and v
 
-  pub run-rest : {u rest from n : ℕ} → RowRun r f u rest from n → (i : ℕ) → i < n → rest + i < 190
+  module _ {u v q from n : ℕ} (R : PairRun r f u v q from n) where
+    run-solve : (i : ℕ) → i < n → (work : List ℤ) → solve table r f work (from + i) ≡ solveAt table r f work u v (getD (choices f v) (q + i) 0)
+    unfolding solve
+    run-solve i h work = rw (R .whose i h, R .where-v i h, R .which-s i h)
+
+    -- a forbidden pair
+    pub run-forbidden : (w : ℤ) → VertexPair table r f u v w → isForbidden w ≡ true → (work : List ℤ) → repeated work from n forbidden ≡ fill table r f work from n
+    run-forbidden w P e work = fill-repeated table r f work from n forbidden (λ i h x. run-solve i h x ∙ solve-forbidden table r f x u v _ (P .is ∙ weighed-none w e))
+
+    -- no children
+    pub run-leaf : (w x : ℤ) → VertexPair table r f u v w → isForbidden w ≡ false → childCountIn plan u ≡ 0 → x ≡ stored w 0 → (work : List ℤ) → repeated work from n x ≡ fill table r f work from n
+    run-leaf w x P e z d work =
+        let none : length (children r u) ≡ 0 = sym (N .planned .recorded u (R .pair .u-low) .child-count) ∙ z in
+        fill-repeated table r f work from n x (λ i h y. run-solve i h y ∙ solve-stored table r f y u v _ w 0 (P .is ∙ weighed-number w e) (best-none _ _ _ none) ∙ sym d)
+
+    -- the numbers behind the branches of u stay while u's are filled
+    kept : (work : List ℤ) (i : ℕ) → i < n → (c x : ℕ) → T (mem c (children r u)) → T (mem x (neighbours f v)) → recalled r f (fill table r f work from i) c x v ≡ recalled r f work c x v
+    unfolding recalled
+    kept work i h c x tc tx =
+        let er = ready-accepted N .recorded .ends in
+        let tr = ready-accepted N .recorded .tree in
+        let ef = ready-accepted N .found .ends in
+        let tf = ready-accepted N .found .tree in
+        let first : uAt r f from ≡ u = subst (λ (y : ℕ). uAt r f y ≡ u) (add-zero from) (R .whose 0 (omega arith)) in
+        let S = sub-at r f er tr ef tf from (let m = R .enough in omega arith) in
+        let a = mem-adjacent f v x tx in
+        let k = child-of r er tr u c (R .pair .u-low) tc in
+        let low : index r f c x v < from = subst (λ (y : ℕ). index r f c x v < y) (S .here) (index-child r f er tr ef tf c x v (uAt r f from) (vAt f from) (sAt f from) (k .0) (k .1) (k .2 ∙ sym first) (a .0) (mem-there v x (neighbours f x) (adjacent-mem f ef x v (adjacent-back f v x (a .1))))) in
+        ap weighed (fill-keeps table r f work from i (index r f c x v) (inl low))
+
+    -- the table of gains
+    pub run-table : (work : List ℤ) (g : List ℕ) (k l : ℕ) → k ≡ childCountIn plan u → l ≡ degreeIn plan v → Filled (length (children r u)) (length (neighbours f v)) (gainAt table r f (recalled r f work) u v) g → (i : ℕ) → i < n → Table k l (q + i) (cell g)
+    run-table work g k l ek el D i h =
+        let a : k ≡ length (children r u) = ek ∙ N .planned .recorded u (R .pair .u-low) .child-count in
+        let b : l ≡ length (neighbours f v) = el ∙ N .planned .found v (R .pair .v-low) .degree in
+        let d = R .choice i h in
+        record {
+          rows = omega (arith, a, children-few N (R .pair));
+          columns = omega (arith, b, degree-few N (R .pair));
+          choice = omega arith;
+          small = λ x y hx hy. D .get x y (omega arith) (omega arith) .1;
+        }
+
+    -- the number of the i-th
+    pub run-number : (work : List ℤ) (g : List ℕ) (k l : ℕ) → k ≡ childCountIn plan u → l ≡ degreeIn plan v → Filled (length (children r u)) (length (neighbours f v)) (gainAt table r f (recalled r f work) u v) g
+        → (w : ℤ) → VertexPair table r f u v w → isForbidden w ≡ false → (i : ℕ) → i < n → (total : ℕ) (x : ℤ) → HeaviestMatching k l (q + i) (cell g) total → x ≡ stored w total → x ≡ solve table r f (fill table r f work from i) (from + i)
+    run-number work g k l ek el D w P e i h total x H d =
+        d
+        ∙ sym (solve-stored table r f (fill table r f work from i) u v s w total (P .is ∙ weighed-number w e)
+        (best-ext (branch table r f (recalled r f (fill table r f work from i)) u v) (branch table r f (recalled r f work) u v) (children r u) (del s (neighbours f v)) (λ c y tc ty. ap (plusW (edgePair table r f u c v y)) (kept work i h c y tc (del-mem y s (neighbours f v) ty .0)))
+        ∙ heaviest-best stands H))
+        ∙ sym (run-solve i h (fill table r f work from i))
+      where
+        s : ℕ
+        s = getD (choices f v) (q + i) 0
+
+        stands : Stands k l (q + i) (branch table r f (recalled r f work) u v) s (children r u) (neighbours f v) (cell g)
+        stands = choice-stands (R .pair) work g k l (q + i) ek el D (R .choice i h)
+
+  -- ---- the vertex of one of a run of u
+
+  pub run-rest : {u rest from n : ℕ} → RowRun r f u rest from n → (i : ℕ) → i < n → rest + i < widthLimit
   run-rest {u} {rest} {from} R i h =
-      let w = width-few in
+      let w = width-few N in
       let e = R .left i h in
-      let m : (from + i) % width f < width f = mod-lt (from + i) width-some in
+      let m : (from + i) % width f < width f = mod-lt (from + i) (width-some N) in
       omega arith
 
-  -- the vertex of one of a run of u
-  pub run-room : {u rest from n m v : ℕ} → RowRun r f u rest from n → (i : ℕ) → i < n → m ≡ count f → Located starts m (rest + i) v → (v < count f) × (getD starts v 0 ≤ rest + i) × (rest + i < getD starts (v + 1) 0)
-  unfolding offset
+  pub run-room : {u rest from n m v : ℕ} → RowRun r f u rest from n → (i : ℕ) → i < n → m ≡ count f → Located (offsetIn plan) m (rest + i) v → (v < count f) × (offsetIn plan v ≤ rest + i) × (rest + i - offsetIn plan v ≤ degreeIn plan v) × (degreeIn plan v ≤ 8)
   run-room {u} {rest} {from} {n} {m} {v} R i h e l =
-      let a = rest-in (from + i) m v e (rw (R .left i h) l) in
+      let a = rest-in N (from + i) m v e (rw (R .left i h) l) in
       let g = R .left i h in
-      let lv : v < count f = a .0 in
-      let o : getD starts v 0 ≡ offset f v = a .1 in
+      let o : offsetIn plan v ≡ offset f v = a .1 in
       let low : offset f v ≤ (from + i) % width f = a .2 in
       let up : (from + i) % width f - offset f v ≤ length (neighbours f v) = a .3 in
-      let o1 : getD starts (v + 1) 0 ≡ offset f (v + 1) = N .found .offsets (v + 1) (omega arith) in
-      let one : offset f (v + 1) ≡ offset f v + suc (length (neighbours f v)) = rw (add-one v) in
-      (lv, omega arith, omega arith)
+      let d : degreeIn plan v ≡ length (neighbours f v) = N .planned .found v (a .0) .degree in
+      let few : length (neighbours f v) ≤ 8 = few-neighbours f _ _ (ready-accepted N .found) v (a .0) in
+      (a .0, omega arith, omega arith, omega arith)
 
   -- those of it that are v's too
-  pub pair-run : {u rest from n m v q c : ℕ} → RowRun r f u rest from n → (i : ℕ) → i < n → m ≡ count f → Located starts m (rest + i) v → q ≡ rest + i - getD starts v 0 → c ≤ n - i → c ≤ getD starts (v + 1) 0 - (rest + i) → PairRun r f starts u v q (from + i) c
+  pub pair-run : {u rest from n m v q c : ℕ} → RowRun r f u rest from n → (i : ℕ) → i < n → m ≡ count f → Located (offsetIn plan) m (rest + i) v → q ≡ rest + i - offsetIn plan v → c ≤ n - i → c ≤ degreeIn plan v + 1 - q → PairRun r f u v q (from + i) c
+  unfolding offset
   pair-run {u} {rest} {from} {n} {m} {v} {q} {c} R i h e l eq ci cs =
       let a = run-room R i h e l in
-      let from-v : getD starts v 0 ≤ rest + i = a .1 in
-      let upto-v : rest + i < getD starts (v + 1) 0 = a .2 in
+      let lv : v < count f = a .0 in
+      let from-v : offsetIn plan v ≤ rest + i = a .1 in
+      let up : rest + i - offsetIn plan v ≤ degreeIn plan v = a .2 in
+      let d : degreeIn plan v ≡ length (neighbours f v) = N .planned .found v lv .degree in
       record {
-        u-low = R .u-low;
-        v-low = a .0;
+        pair = record { u-low = R .u-low; v-low = lv };
         enough = let g = R .enough in omega arith;
         whose = λ j hj. let s : from + i + j ≡ from + (i + j) = omega arith in rw s (R .whose (i + j) (omega arith));
-        located = λ j hj. rw (here j hj) (record { low = a .0; from = λ z. omega arith; upto = λ z. omega arith });
-        choice = λ j hj. rw (here j hj) (omega arith);
+        where-v = λ j hj. number-v N (from + i + j) m v e (rw (here j hj) (inside j hj));
+        which-s = λ j hj. number-s N (from + i + j) m v (q + j) e (rw (here j hj) (inside j hj)) (rw (here j hj) (omega arith));
+        choice = λ j hj. omega arith;
       }
     where
       here : (j : ℕ) → j < c → (from + i + j) % width f ≡ rest + i + j
@@ -172,20 +205,31 @@ module _ {table r f : List ℕ} {numbers : List ℤ} {fnear flabels : List (List
           let t : rest + i + j ≡ rest + (i + j) = omega arith in
           rw (s, t) (R .left (i + j) (omega arith))
 
-module _ {table r f : List ℕ} {numbers : List ℤ} {rnear rlabels fnear flabels : List (List ℕ)} {order place starts : List ℕ} (N : Ready table r f numbers rnear rlabels fnear flabels order place starts) where
-  pub number-u : (p : ℕ) → p < subproblems r f → getD order (p / width f) 0 ≡ uAt r f p
-  unfolding uAt
-  number-u p h = N .recorded .ordered (p / width f) (number-low (ready-sides N) p h .0)
+      inside : (j : ℕ) → j < c → Located (offsetIn plan) m (rest + i + j) v
+      inside j hj =
+          let a = run-room R i h e l in
+          let from-v : offsetIn plan v ≤ rest + i = a .1 in
+          let d : degreeIn plan v ≡ length (neighbours f v) = N .planned .found v (a .0) .degree in
+          record {
+            low = l .low;
+            from = λ z. omega arith;
+            upto = λ z.
+                let o : offsetIn plan v ≡ offset f v = offsets-are N v (a .0) in
+                let o1 : offsetIn plan (v + 1) ≡ offset f (v + 1) = offsets-are N (v + 1) (omega arith) in
+                let one : offset f (v + 1) ≡ offset f v + suc (length (neighbours f v)) = rw (add-one v) in
+                omega arith;
+          }
 
   -- numbers that end where u's do, or before
-  pub row-run : (p c : ℕ) → p + c ≤ subproblems r f → 1 ≤ c → c ≤ width f - p % width f → RowRun r f (getD order (p / width f) 0) (p % width f) p c
+  pub row-run : (p c : ℕ) → p + c ≤ subproblems r f → 1 ≤ c → c ≤ width f - p % width f → RowRun r f (orderIn plan (p / width f)) (p % width f) p c
   unfolding uAt
   row-run p c h some fits =
       let low : p < subproblems r f = omega arith in
+      let S = sub-at r f (ready-accepted N .recorded .ends) (ready-accepted N .recorded .tree) (ready-accepted N .found .ends) (ready-accepted N .found .tree) p low in
       record {
-        u-low = rw (number-u p low) (number-sub (ready-sides N) p low .u-low);
+        u-low = rw (number-u N p low) (S .u-low);
         enough = h;
-        whose = λ i hi. ap (λ (z : ℕ). getD (postorder r) z 0) (ap (λ (z : ℕ). z / width f) (split i) ∙ digits-div (p / width f) (room i hi)) ∙ sym (number-u p low);
+        whose = λ i hi. ap (λ (z : ℕ). getD (postorder r) z 0) (ap (λ (z : ℕ). z / width f) (split i) ∙ digits-div (p / width f) (room i hi)) ∙ sym (number-u N p low);
         left = λ i hi. ap (λ (z : ℕ). z % width f) (split i) ∙ digits-mod (p / width f) (room i hi);
       }
     where
@@ -196,7 +240,7 @@ module _ {table r f : List ℕ} {numbers : List ℤ} {rnear rlabels fnear flabel
       room i hi = omega arith
 
 -- one number more
-pub fill-next : (table r f : List ℕ) (work w : List ℤ) (k c : ℕ) (x : ℤ) → w ≡ fill table r f work k c → x ≡ solve table r f w (k + c) → set w (k + c) x ≡ fill table r f work k (c + 1)
+pub fill-next : (table r f : List ℕ) (work w : List ℤ) (k c : ℕ) (x : ℤ) → w ≡ fill table r f work k c → x ≡ solve table r f (fill table r f work k c) (k + c) → set w (k + c) x ≡ fill table r f work k (c + 1)
 unfolding fill
 fill-next table r f work w k c x e h = rw (add-one c, h, e)
 

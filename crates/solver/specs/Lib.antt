@@ -1,7 +1,7 @@
 -- Laws of the solver.
-pub mod Plan
-pub mod PlanLaws
 pub mod Exact
+pub mod Heaviest
 pub mod Choice
 pub mod Branches
 pub mod FillLaws
+pub mod Mates

@@ -1,83 +1,33 @@
-//! Filling: subproblem p from its number, and count subproblems from a position on, each from the work numbers before it. What u, and what u and v,
-//! have in common is found once.
-use crate::plan::behind;
-use crate::plan::kids;
-use crate::plan::locate;
-use crate::plan::taken;
-use crate::subproblem::number_of;
-use crate::subproblem::pair_weight;
-use crate::subproblem::solve_at;
-use crate::subproblem::width_of;
+//! Filling: count subproblems from a position on, each from the work numbers before it. What u, and what u and v, have in common is found once.
+use crate::subproblem::gains;
+use crate::subproblem::heaviest;
 use formats::tree::vertex_count;
-ghost use Prim.Native.Nat.{_+_, _≤_, _<_};
+use plan::child_count;
+use plan::counts::lesser;
+use plan::counts::width_of;
+use plan::degree;
+use plan::in_order;
+use plan::locate;
+use plan::offset;
+use plan::weights::vertex_pair;
+ghost use Prim.Native.Nat.{_+_, _≤_};
 ghost use mathlib.Core.Path.{_≡_};
+ghost use lib.ListN.{length};
 ghost use Rattle.model.specs.Order.{subproblems};
-ghost use Rattle.model.specs.Values.{solve, fill};
-ghost use Rattle.solver.specs.Plan.{Ready, Known, Sides, Lent};
-ghost use Rattle.solver.specs.Branches.{KidsOf};
-ghost use Rattle.solver.specs.FillLaws.{choiceIn, RowRun, PairRun};
+ghost use Rattle.model.specs.Values.{fill};
+ghost use Rattle.plan.specs.Plan.{Ready, Lent};
+ghost use Rattle.solver.specs.FillLaws.{repeated, RowRun, PairRun};
 
-// The q-th choice of s for v: v itself, then its neighbours.
-pub fn choice_in(row: [u8; 8], v: u8, q: usize) -> u8
-    requires { ⌜ q ≤ 8 ⌝ }
-    ensures { λ r. ⌜ r ≡ choiceIn row v q ⌝ }
+// The same number count times.
+fn repeat(work: &mut [i32], x: i32, from: usize, count: usize)
+    requires { ⌜ from + count ≤ length (now work) ⌝ }
+    ensures { λ _. ⌜ now (work .exit) ≡ repeated (now (work .entry)) from count x ⌝ }
 {
-    if q == 0 {
-        return v;
+    let mut i = 0;
+    while i < count {
+        work[from + i] = x;
+        i += 1;
     }
-    row[q - 1]
-}
-
-// The number of subproblem p.
-pub fn solve_number(
-    table: &[u8],
-    recorded: &[u8],
-    found: &[u8],
-    weights: &[i32; 64],
-    rnear: &[[u8; 8]; 64],
-    rlabels: &[[u8; 8]; 64],
-    fnear: &[[u8; 8]; 64],
-    flabels: &[[u8; 8]; 64],
-    order: &[u8; 64],
-    place: &[u8; 64],
-    starts: &[usize; 65],
-    work: &[i32],
-    p: usize,
-) -> i32
-    requires { ⌜ Ready (now table) (now recorded) (now found) (now weights) (now rnear) (now rlabels) (now fnear) (now flabels) (now order) (now place) (now starts) ⌝ }
-    requires { ⌜ Lent (now recorded) (now found) (now work) ⌝ }
-    requires { ⌜ p < subproblems (now recorded) (now found) ⌝ }
-    ensures { λ r. ⌜ r ≡ solve (now (table .entry)) (now (recorded .entry)) (now (found .entry)) (now (work .entry)) p ⌝ }
-{
-    let width = width_of(found);
-    let u = order[p / width];
-    let rest = p % width;
-    let v = locate(starts, vertex_count(found), rest, 0);
-    let s = choice_in(fnear[v as usize], v, rest - starts[v as usize]);
-    solve_at(
-        table,
-        recorded,
-        found,
-        weights,
-        rnear,
-        rlabels,
-        fnear,
-        flabels,
-        place,
-        starts,
-        work,
-        u,
-        v,
-        s,
-    )
-}
-
-// The lesser of two numbers above 0.
-fn lesser(a: usize, b: usize) -> usize
-    requires { ⌜ (1 ≤ a) × (1 ≤ b) ⌝ }
-    ensures { λ r. ⌜ (1 ≤ r) × (r ≤ a) × (r ≤ b) ⌝ }
-{
-    if a < b { a } else { b }
 }
 
 // Of the subproblems of u and v: count of them, from the q-th choice of s on.
@@ -85,47 +35,36 @@ fn fill_pair(
     table: &[u8],
     recorded: &[u8],
     found: &[u8],
-    weights: &[i32; 64],
-    fnear: &[[u8; 8]; 64],
-    flabels: &[[u8; 8]; 64],
-    starts: &[usize; 65],
+    plan: &[[u8; 8]; 512],
     work: &mut [i32],
-    k: usize,
-    label: &[u8; 8],
-    base: &[usize; 8],
     u: u8,
     v: u8,
     q: usize,
     from: usize,
     count: usize,
 )
-    requires { ⌜ Sides (now table) (now recorded) (now found) (now weights) (now fnear) (now flabels) (now starts) ⌝ }
+    requires { ⌜ Ready (now table) (now recorded) (now found) (now plan) ⌝ }
     requires { ⌜ Lent (now recorded) (now found) (now work) ⌝ }
-    requires { ⌜ KidsOf (now recorded) (now found) u k (now label) (now base) ⌝ }
-    requires { ⌜ PairRun (now recorded) (now found) (now starts) u v q from count ⌝ }
+    requires { ⌜ PairRun (now recorded) (now found) u v q from count ⌝ }
     ensures { λ _. ⌜ now (work .exit) ≡ fill (now (table .entry)) (now (recorded .entry)) (now (found .entry)) (now (work .entry)) from count ⌝ }
 {
-    let w = pair_weight(table, recorded, found, u, v);
-    let names = fnear[v as usize];
-    let labels = flabels[v as usize];
-    let l = taken(names);
-    let back = behind(fnear, starts, v);
+    let w = vertex_pair(table, recorded, found, u, v);
+    let k = child_count(plan, u);
+    let l = degree(plan, v);
+    if integers::is_forbidden(w) {
+        repeat(work, model::Limits::FORBIDDEN, from, count);
+        return;
+    }
+    if k == 0 {
+        repeat(work, integers::stored_value(w, 0), from, count);
+        return;
+    }
+    let mut g = [0u64; 64];
+    gains(&mut g, table, recorded, found, plan, work, u, v);
     let mut i = 0;
     while i < count {
-        let s = choice_in(names, v, q + i);
-        let x = number_of(
-            weights,
-            work,
-            label,
-            base,
-            k,
-            &names,
-            &labels,
-            &back,
-            l,
-            s,
-            w,
-        );
+        let total = heaviest(&g, k, l, q + i);
+        let x = integers::stored_value(w, total);
         work[from + i] = x;
         i += 1;
     }
@@ -136,54 +75,26 @@ fn fill_row(
     table: &[u8],
     recorded: &[u8],
     found: &[u8],
-    weights: &[i32; 64],
-    rnear: &[[u8; 8]; 64],
-    rlabels: &[[u8; 8]; 64],
-    fnear: &[[u8; 8]; 64],
-    flabels: &[[u8; 8]; 64],
-    place: &[u8; 64],
-    starts: &[usize; 65],
+    plan: &[[u8; 8]; 512],
     work: &mut [i32],
     u: u8,
     rest: usize,
     from: usize,
     count: usize,
 )
-    requires { ⌜ Known (now table) (now recorded) (now found) (now weights) (now rnear) (now rlabels) (now fnear) (now flabels) (now place) (now starts) ⌝ }
+    requires { ⌜ Ready (now table) (now recorded) (now found) (now plan) ⌝ }
     requires { ⌜ Lent (now recorded) (now found) (now work) ⌝ }
     requires { ⌜ RowRun (now recorded) (now found) u rest from count ⌝ }
     ensures { λ _. ⌜ now (work .exit) ≡ fill (now (table .entry)) (now (recorded .entry)) (now (found .entry)) (now (work .entry)) from count ⌝ }
 {
-    let a = u as usize;
-    let row = kids(rnear[a], rlabels[a], place, place[a], width_of(found));
-    let k = row.count;
-    let label = row.label;
-    let base = row.base;
     let m = vertex_count(found);
     let mut v: u8 = 0;
     let mut i = 0;
     while i < count {
-        let t = locate(starts, m, rest + i, v);
-        let q = rest + i - starts[t as usize];
-        let c = lesser(count - i, starts[(t as usize) + 1] - (rest + i));
-        fill_pair(
-            table,
-            recorded,
-            found,
-            weights,
-            fnear,
-            flabels,
-            starts,
-            work,
-            k,
-            &label,
-            &base,
-            u,
-            t,
-            q,
-            from + i,
-            c,
-        );
+        let t = locate(plan, m, rest + i, v);
+        let q = rest + i - offset(plan, t);
+        let c = lesser(count - i, degree(plan, t) + 1 - q);
+        fill_pair(table, recorded, found, plan, work, u, t, q, from + i, c);
         v = t;
         i += c;
     }
@@ -194,19 +105,12 @@ pub fn fill(
     table: &[u8],
     recorded: &[u8],
     found: &[u8],
-    weights: &[i32; 64],
-    rnear: &[[u8; 8]; 64],
-    rlabels: &[[u8; 8]; 64],
-    fnear: &[[u8; 8]; 64],
-    flabels: &[[u8; 8]; 64],
-    order: &[u8; 64],
-    place: &[u8; 64],
-    starts: &[usize; 65],
+    plan: &[[u8; 8]; 512],
     work: &mut [i32],
     from: usize,
     count: usize,
 )
-    requires { ⌜ Ready (now table) (now recorded) (now found) (now weights) (now rnear) (now rlabels) (now fnear) (now flabels) (now order) (now place) (now starts) ⌝ }
+    requires { ⌜ Ready (now table) (now recorded) (now found) (now plan) ⌝ }
     requires { ⌜ Lent (now recorded) (now found) (now work) ⌝ }
     requires { ⌜ from + count ≤ subproblems (now recorded) (now found) ⌝ }
     ensures { λ _. ⌜ now (work .exit) ≡ fill (now (table .entry)) (now (recorded .entry)) (now (found .entry)) (now (work .entry)) from count ⌝ }
@@ -221,15 +125,9 @@ pub fn fill(
             table,
             recorded,
             found,
-            weights,
-            rnear,
-            rlabels,
-            fnear,
-            flabels,
-            place,
-            starts,
+            plan,
             work,
-            order[p / width],
+            in_order(plan, p / width),
             rest,
             p,
             c,

@@ -11,9 +11,8 @@ use Rattle.foundations.specs.Members.{mem, mem-here, mem-there, Distinct, del, 
 use Rattle.foundations.specs.Members.{lsum-nonneg, lsum-del}
 use Rattle.foundations.specs.Sums.{lsum}
 use Rattle.foundations.specs.Tests.{true→T}
-use Rattle.model.specs.Values.{best}
-use Rattle.model.specs.Weights.{Weight, some, _⊑_}
-use Rattle.subtrees.specs.Matching.{Assign, gain, assign-skip, assign-take, best-attained}
+use Rattle.model.specs.Weights.{Weight, some}
+use Rattle.subtrees.specs.Matching.{Assign, gain, assign-skip, assign-take}
 use Rattle.subtrees.specs.Problem.{Instance, Choice, branchW, available, Bounding}
 
 -- weak duality
@@ -37,12 +36,6 @@ module _ (w : ℕ → ℕ → Weight) (on : ℕ → Bool) (to : ℕ → ℕ) (g 
   cover-bounds (c ∷ cs) A d s p q r = cover-step c cs A (on c) refl s (p c (mem-here c cs)) q (r c (mem-here c cs))
       (cover-bounds cs A (d .1) (assign-skip w on to g c cs A s) (λ x t. p x (mem-there x c cs t)) q (λ x t. r x (mem-there x c cs t)))
       (λ o. cover-bounds cs (del (to c) A) (d .1) (assign-take w on to g c cs A (d .0) o s) (λ x t. p x (mem-there x c cs t)) (λ x t. q x (del-mem x (to c) A t .0)) (λ x t. r x (mem-there x c cs t)))
-
--- so no matching weighs more
-pub best-covered : (w : ℕ → ℕ → Weight) (cs A : List ℕ) (a b : ℕ → ℤ) → Distinct cs → ((c : ℕ) → T (mem c cs) → pos 0 ≤ℤ a c) → ((x : ℕ) → T (mem x A) → pos 0 ≤ℤ b x) → ((c x : ℕ) → T (mem c cs) → T (mem x A) → (z : ℤ) → w c x ≡ some z → z ≤ℤ (a c +ℤ b x)) → best w cs A ⊑ some (lsum cs a +ℤ lsum A b)
-best-covered w cs A a b d p q h =
-    let r = best-attained w cs A d in
-    rw (r .heaviest) (cover-bounds w (r .on) (r .to) (r .g) a b cs A d (r .assign) p q (λ c t o. h c (r .to c) t (r .assign .free c t o) (r .g c) (r .assign .weighs c t o)))
 
 -- duals for (u, v, s), an allowed pair of weight z
 pub record CoversAt (P : Instance) (val : ℕ → ℕ → ℕ → Weight) (u v s : ℕ) (z : ℤ) : Type 0 where

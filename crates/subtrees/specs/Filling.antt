@@ -22,7 +22,7 @@ use Rattle.model.specs.Order.{children, subproblems, index, uAt, vAt, sAt}
 use Rattle.model.specs.Pairs.{vertexPair, edgePair}
 use Rattle.model.specs.Values.{best, branch, valueFrom, Subproblem, Solves, value, number, valueAt, values, recalled, clipped, solveAt, solve, fill}
 use Rattle.model.specs.Weights.{isForbidden, Weight, none, some, weighed, plusW, stored}
-use Rattle.trees.specs.Positions.{Sub, index-low, index-kid, index-once, sub-at}
+use Rattle.trees.specs.Positions.{Sub, index-low, index-child, index-once, sub-at}
 use Rattle.trees.specs.Rooted.{child-of}
 use Rattle.formats.specs.Inputs.{Accepted}
 use Rattle.subtrees.specs.Accepted.{recorded-tree, found-tree}
@@ -153,7 +153,7 @@ module _ (table r f : List ℕ) (A : Accepted table r f) where
       alike u v s S q c x tc tx =
           let h = child-of r (tr .ends) (tr .loopless) u c (q .u-low) tc in
           let b = branch-sub u v s q c x tc tx in
-          let i : index r f c x v < k = subst (λ (j : ℕ). index r f c x v < j) (S .here) (index-kid r f (tr .ends) (tr .loopless) (tf .ends) (tf .loopless) c x v u v s (h .0) (h .1) (h .2) (b .v-low) (b .s-in)) in
+          let i : index r f c x v < k = subst (λ (j : ℕ). index r f c x v < j) (S .here) (index-child r f (tr .ends) (tr .loopless) (tf .ends) (tf .loopless) c x v u v s (h .0) (h .1) (h .2) (b .v-low) (b .s-in)) in
           ap (plusW (edgePair table r f u c v x)) (right-recalled work k R c x v b i)
 
   -- ---- as lists

@@ -1,4 +1,4 @@
--- Partners handed down from the top: any lawful choice at each pair reads out a mapping, a heaviest choice one of the top's value. Assumes nothing.
+-- Partners handed down from the top: a heaviest choice at each pair reads out a mapping of the top's value. Assumes nothing.
 use mathlib.Core.Path.{_≡_, refl, sym, ap, _∙_, subst}
 use mathlib.Core.Logic.{_⊎_, inl, inr, ⊎-elim, _≢_}
 use mathlib.Core.Bool.{Bool, true, false, cond}
@@ -12,48 +12,41 @@ use Rattle.foundations.specs.Members.{mem, del-mem, lsum-ext}
 use Rattle.foundations.specs.Sums.{pick}
 use Rattle.foundations.specs.Tests.{same, eqb-same}
 use Rattle.model.specs.Values.{best}
-use Rattle.model.specs.Weights.{Weight, none, some, plusW}
+use Rattle.model.specs.Weights.{Weight, some, plusW}
 use Rattle.subtrees.specs.Bound.{ownS, own-cases, own-inner}
-use Rattle.subtrees.specs.Connected.{here, inner-of, of-inner, above, Under, set-ind}
+use Rattle.subtrees.specs.Connected.{inner-of, of-inner, set-ind}
 use Rattle.subtrees.specs.Matching.{Assign, gain, Attained, best-attained, assign-ext}
 use Rattle.subtrees.specs.Problem.{Instance, Mapping, weightOf, Choice, choice-self, choice-near, branchW, available, Solved}
 use Rattle.subtrees.specs.Quick.{FoundRooting}
-use Rattle.subtrees.specs.Readout.{Readout, readout-is-mapping, readout-value, Chosen, Reads, reads-readout, reads-tight}
+use Rattle.subtrees.specs.Readout.{readout-is-mapping, readout-value, Chosen, Reads, reads-readout, reads-tight}
 use Rattle.subtrees.specs.Rooted.{inner}
 use Rattle.subtrees.specs.WeightLaws.{plus-some, some-inj}
 
 -- where a vertex is put: nowhere, or with a partner and the s of its subproblem
-pub data Spot : Type 0 where
+data Spot : Type 0 where
   off : Spot
   put : ℕ → ℕ → Spot
 
-abbrev pub isPut : Spot → Bool
+abbrev isPut : Spot → Bool
 isPut off = false
 isPut (put v s) = true
 
-abbrev pub mateOf : Spot → ℕ
+abbrev mateOf : Spot → ℕ
 mateOf off = 0
 mateOf (put v s) = v
 
 -- What each pair (u, v) with s lists: `has u v s c` says that there is a branch pair of the child c, `mate u v s c` is its found vertex.
--- A lawful choice: different free neighbours, no pair forbidden
-pub record LawfulAt (P : Instance) (has : ℕ → ℕ → ℕ → ℕ → Bool) (mate : ℕ → ℕ → ℕ → ℕ → ℕ) (u v s : ℕ) : Type 0 where
-  pub free : (c : ℕ) → T (mem c (P .children u)) → T (has u v s c) → T (mem (mate u v s c) (available P v s))
-  pub apart : (c d : ℕ) → T (mem c (P .children u)) → T (mem d (P .children u)) → T (has u v s c) → T (has u v s d) → mate u v s c ≡ mate u v s d → c ≡ d
-  pub vertex : (c : ℕ) → T (mem c (P .children u)) → T (has u v s c) → P .W c (mate u v s c) ≢ none
-  pub edge : (c : ℕ) → T (mem c (P .children u)) → T (has u v s c) → P .E u c v (mate u v s c) ≢ none
-
--- a choice that attains the heaviest matching
-pub record AttainsAt (P : Instance) (val : ℕ → ℕ → ℕ → Weight) (has : ℕ → ℕ → ℕ → ℕ → Bool) (mate : ℕ → ℕ → ℕ → ℕ → ℕ) (worth : ℕ → ℕ → ℕ → ℕ → ℤ) (u v s : ℕ) : Type 0 where
-  pub assign : Assign (branchW P val u v) (P .children u) (available P v s) (has u v s) (mate u v s) (worth u v s)
-  pub heaviest : best (branchW P val u v) (P .children u) (available P v s) ≡ some (gain (P .children u) (has u v s) (worth u v s))
+-- One that attains the heaviest matching:
+record AttainsAt (P : Instance) (val : ℕ → ℕ → ℕ → Weight) (has : ℕ → ℕ → ℕ → ℕ → Bool) (mate : ℕ → ℕ → ℕ → ℕ → ℕ) (worth : ℕ → ℕ → ℕ → ℕ → ℤ) (u v s : ℕ) : Type 0 where
+  assign : Assign (branchW P val u v) (P .children u) (available P v s) (has u v s) (mate u v s) (worth u v s)
+  heaviest : best (branchW P val u v) (P .children u) (available P v s) ≡ some (gain (P .children u) (has u v s) (worth u v s))
 
 module _ (P : Instance) (has : ℕ → ℕ → ℕ → ℕ → Bool) (mate : ℕ → ℕ → ℕ → ℕ → ℕ) where
-  unfoldable pub give : Bool → ℕ → ℕ → Spot
+  unfoldable give : Bool → ℕ → ℕ → Spot
   give true x v = put x v
   give false x v = off
 
-  unfoldable pub next : Spot → ℕ → Spot
+  unfoldable next : Spot → ℕ → Spot
   next off x = off
   next (put v s) x = give (has (P .parent x) v s x) (mate (P .parent x) v s x) v
 
@@ -73,76 +66,30 @@ module _ (P : Instance) (has : ℕ → ℕ → ℕ → ℕ → Bool) (mate : ℕ
       (same x 0)
 
   -- the spot of x in the read-out from t, whose own spot is i
-  pub spot : ℕ → Spot → ℕ → Spot
+  spot : ℕ → Spot → ℕ → Spot
   spot t i x = spotTo t i (suc (P .depth x)) x
 
-  pub spot-top : (t : ℕ) (i : Spot) → spot t i t ≡ i
+  spot-top : (t : ℕ) (i : Spot) → spot t i t ≡ i
   unfolding spot spotTo
   spot-top t i = rw (eqb-same t)
 
-  pub spot-root : (t : ℕ) (i : Spot) → 0 ≢ t → spot t i 0 ≡ off
+  spot-root : (t : ℕ) (i : Spot) → 0 ≢ t → spot t i 0 ≡ off
   unfolding spot spotTo
   spot-root t i h = rw (ne-eqb 0 t h)
 
-  pub spot-next : (t : ℕ) (i : Spot) (x : ℕ) → x < P .n → x ≢ t → x ≢ 0 → spot t i x ≡ next (spot t i (P .parent x)) x
+  spot-next : (t : ℕ) (i : Spot) (x : ℕ) → x < P .n → x ≢ t → x ≢ 0 → spot t i x ≡ next (spot t i (P .parent x)) x
   unfolding spot spotTo
   spot-next t i x l h z = let r = P .rooted .up x l z in
       rw (ne-eqb x t h, ne-eqb x 0 z) (ap (λ (s : Spot). next s x) (spot-enough t i (P .depth x) (suc (P .depth (P .parent x))) (P .parent x) (r .0) (r .1) (omega arith)))
-
-  -- below c the spots go by c's own
-  pub spot-under : (t : ℕ) (i : Spot) (c x : ℕ) → P .depth t ≤ P .depth c → Under (P .n) (P .parent) c x → (spot t i x ≡ spot c (spot t i c) x) × (P .depth c ≤ P .depth x)
-  spot-under t i c x h p = go p
-    where
-      off-path : (x y : ℕ) → P .depth y ≤ P .depth c → P .depth c ≤ P .depth (P .parent x) → P .depth (P .parent x) < P .depth x → x ≢ y
-      off-path x y a b d e = no (ap (P .depth) e)
-        where
-          no : P .depth x ≡ P .depth y → ⊥
-          no q = omega arith
-
-      go : {x : ℕ} → Under (P .n) (P .parent) c x → (spot t i x ≡ spot c (spot t i c) x) × (P .depth c ≤ P .depth x)
-      go here = (sym (spot-top c (spot t i c)), omega arith)
-      go (above {x = x} z p) =
-          let q = go p in let r = P .rooted .up x (z .0) (z .1) in (
-            spot-next t i x (z .0) (off-path x t h (q .1) (r .1)) (z .1)
-                ∙ ap (λ (s : Spot). next s x) (q .0)
-                ∙ sym (spot-next c (spot t i c) x (z .0) (off-path x c (omega arith) (q .1) (r .1)) (z .1)),
-            omega (arith, q .1, r .1),
-          )
-
-  -- a vertex that is not under t has no partner
-  pub spot-off : (t : ℕ) (i : Spot) (x : ℕ) → x < P .n → ¬ (Under (P .n) (P .parent) t x) → spot t i x ≡ off
-  unfolding next
-  spot-off t i x l h = go (suc (P .depth x)) x l (omega arith) h
-    where
-      go : (k x : ℕ) → x < P .n → P .depth x < k → ¬ (Under (P .n) (P .parent) t x) → spot t i x ≡ off
-      go zero x l h q = absurd (not-suc-le-zero h)
-      go (suc k) x l h q = ⊎-elim
-          (λ e. ap (spot t i) (e .0) ∙ spot-root t i (λ f. q (subst (λ (y : ℕ). Under (P .n) (P .parent) t y) (sym (e .0 ∙ f)) here)))
-          (λ e. let r = P .rooted .up x l (e .0) in
-          spot-next t i x l (λ f. q (subst (λ (y : ℕ). Under (P .n) (P .parent) t y) (sym f) here)) (e .0)
-          ∙ ap (λ (s : Spot). next s x) (go k (P .parent x) (r .0) (omega (arith, r .1)) (λ p. q (above (l, e .0) p))))
-          (same x 0)
-
-  -- under a vertex without a partner nobody has one
-  pub spot-none : (c x : ℕ) → Under (P .n) (P .parent) c x → spot c off x ≡ off
-  unfolding next
-  spot-none c x p = go p
-    where
-      go : {x : ℕ} → Under (P .n) (P .parent) c x → spot c off x ≡ off
-      go here = spot-top c off
-      go (above {x = x} z p) = ⊎-elim
-          (λ e. ap (spot c off) (e .0) ∙ spot-top c off)
-          (λ e. spot-next c off x (z .0) (e .0) (z .1) ∙ ap (λ (s : Spot). next s x) (go p))
-          (same x c)
 
 module _ (P : Instance) (has : ℕ → ℕ → ℕ → ℕ → Bool) (mate : ℕ → ℕ → ℕ → ℕ → ℕ) (t v₀ : ℕ) (lt : t < P .n) (lv : v₀ < P .m) where
   abbrev sp : ℕ → Spot
   sp x = spot P has mate t (put v₀ v₀) x
 
-  unfoldable pub handedOn : ℕ → Bool
+  unfoldable handedOn : ℕ → Bool
   handedOn x = isPut (sp x)
 
-  unfoldable pub handedTo : ℕ → ℕ
+  unfoldable handedTo : ℕ → ℕ
   handedTo x = mateOf (sp x)
 
   sp-t : sp t ≡ put v₀ v₀
@@ -260,10 +207,6 @@ module _ (P : Instance) (has : ℕ → ℕ → ℕ → ℕ → Bool) (mate : ℕ
   own-up : (c : ℕ) → T (inner (P .parent) handedOn c) → own c ≡ handedTo (P .parent c)
   own-up c i = own-inner (P .parent) handedOn handedTo c i
 
-  -- the pair of u is one of the instance's, with its s
-  abbrev Stays : ℕ → Type 0
-  Stays u = (handedTo u < P .m) × Choice P (handedTo u) (own u)
-
   -- what a child stands on
   record Child (c : ℕ) : Type 0 where
     le : P .parent c < P .n
@@ -276,32 +219,6 @@ module _ (P : Instance) (has : ℕ → ℕ → ℕ → ℕ → Bool) (mate : ℕ
   child-facts c l i =
       let j = of-inner (P .parent) handedOn c i in let r = P .rooted .up c l (j .1) in let m = P .rooted .child-of c l (j .1) in
       record { le = r .0; up-on = j .2; child = m; took = subst T (child-on (P .parent c) c (r .0) (j .2) m) (j .0); with = child-to (P .parent c) c (r .0) (j .2) m (j .0) }
-
-  module _ (L : (u v s : ℕ) → u < P .n → v < P .m → Choice P v s → LawfulAt P has mate u v s) (W₀ : P .W t v₀ ≢ none) where
-    stays : (u : ℕ) → u < P .n → T (handedOn u) → Stays u
-    stays = set-ind (P .n) (P .parent) (P .depth) (P .rooted .up) handedOn t only Stays
-        (rw to-t lv, choice-self P (handedTo t) (own t) (own-t ∙ sym to-t))
-        (λ c l i h. let k = child-facts c l i in
-        let f = P .symmetric (handedTo (P .parent c)) (handedTo c) (h .0) (rw (k .with) (del-mem _ (own (P .parent c)) (P .neighbours (handedTo (P .parent c))) (L (P .parent c) (handedTo (P .parent c)) (own (P .parent c)) (k .le) (h .0) (h .1) .free c (k .child) (k .took)) .0)) in
-        (f .0, choice-near P (handedTo c) (own c) (rw (own-up c i) (f .1))))
-
-    abbrev law : (u : ℕ) → u < P .n → T (handedOn u) → LawfulAt P has mate u (handedTo u) (own u)
-    law u l o = let h = stays u l o in L u (handedTo u) (own u) l (h .0) (h .1)
-
-    -- any lawful choice reads out a mapping, whatever the values were
-    pub choice-readout : Readout P t handedOn handedTo
-    choice-readout = record {
-      root = (lt, on-put t v₀ v₀ sp-t, rw to-t lv, no-inner);
-      only = only;
-      free = λ c l i. let k = child-facts c l i in rw (k .with) (law (P .parent c) (k .le) (k .up-on) .free c (k .child) (k .took));
-      apart = λ c d l l′ i j e q. let k = child-facts c l i in let k′ = child-facts d l′ j in
-          law (P .parent c) (k .le) (k .up-on) .apart c d (k .child) (subst (λ (x : ℕ). T (mem d (P .children x))) (sym e) (k′ .child)) (k .took)
-          (subst (λ (x : ℕ). T (has x (handedTo x) (own x) d)) (sym e) (k′ .took))
-          (sym (k .with) ∙ q ∙ k′ .with ∙ ap (λ (x : ℕ). mate x (handedTo x) (own x) d) (sym e));
-      vertices = λ u l o. ⊎-elim (λ e. subst (λ (x : ℕ). P .W x (handedTo x) ≢ none) (sym e) (rw to-t W₀))
-          (λ i. let k = child-facts u l i in rw (k .with) (law (P .parent u) (k .le) (k .up-on) .vertex u (k .child) (k .took))) (only u l o);
-      edges = λ c l i. let k = child-facts c l i in rw (k .with) (law (P .parent c) (k .le) (k .up-on) .edge c (k .child) (k .took));
-    }
 
   -- a choice that attains the values reads out a mapping of the top's value
   module _ (val : ℕ → ℕ → ℕ → Weight) (S : Solved P val) (worth : ℕ → ℕ → ℕ → ℕ → ℤ)
@@ -338,10 +255,10 @@ module _ (P : Instance) (has : ℕ → ℕ → ℕ → ℕ → Bool) (mate : ℕ
         let s = own-up c i in
         record { small = f .0; choice = choice-near P (handedTo c) (own c) (rw s (f .1)); y = w .1; allowed = rw s (w .3) })
 
-    pub choice-reads : Reads P val t handedOn handedTo
+    choice-reads : Reads P val t handedOn handedTo
     choice-reads = record { root = (lt, on-put t v₀ v₀ sp-t, rw to-t lv, no-inner); only = only; chosen = λ u l o. chosen u l o (good u l o) }
 
-    pub choice-mapping : (fpar fdep : ℕ → ℕ) → FoundRooting P fpar fdep → Mapping P handedOn handedTo × (weightOf P handedOn handedTo ≡ z₀)
+    choice-mapping : (fpar fdep : ℕ → ℕ) → FoundRooting P fpar fdep → Mapping P handedOn handedTo × (weightOf P handedOn handedTo ≡ z₀)
     choice-mapping fpar fdep F = (
       readout-is-mapping P fpar fdep F t handedOn handedTo (reads-readout P val t handedOn handedTo choice-reads),
       some-inj _ _ (sym (readout-value P fpar fdep F t handedOn handedTo (reads-readout P val t handedOn handedTo choice-reads) val (reads-tight P val t handedOn handedTo choice-reads)) ∙ ap (λ (x : ℕ). val t x x) to-t ∙ e₀),

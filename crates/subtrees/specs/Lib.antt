@@ -20,5 +20,4 @@ pub mod Optimal
 pub mod Accepted
 pub mod ValueRange
 pub mod Filling
-pub mod ReadPair
 pub mod Theorems

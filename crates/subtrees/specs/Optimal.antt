@@ -1,7 +1,7 @@
 -- For two trees that pass: values that bound give a bound on every mapping, the paper's values are such, and some mapping attains them.
 -- Assumes nothing.
 use mathlib.Core.Path.{_≡_, refl, sym, ap, _∙_, subst}
-use mathlib.Core.Logic.{_⊎_, inl, inr, ⊎-elim, _≢_, _↔_}
+use mathlib.Core.Logic.{_≢_, _↔_}
 use mathlib.Core.Bool.{Bool, true, false, not, cond}
 use mathlib.Core.List.{List}
 use Prim.Native.Nat.{ℕ, _-_, _≤_, _<_}
@@ -13,7 +13,6 @@ use lib.ListN.{getD, replicate, length-replicate, getD-replicate}
 use borrow.Author.Tests.{ne-eqb}
 use Rattle.foundations.specs.Int.{≤ℤ-antisym}
 use Rattle.foundations.specs.Lists.{tab, length-tab, getD-tab, below}
-use Rattle.foundations.specs.Members.{mem-below}
 use Rattle.foundations.specs.Tests.{T→true}
 use Rattle.model.specs.Duals.{AllCover}
 use Rattle.model.specs.Limits.{vertexLimit, noVertex}
@@ -32,7 +31,7 @@ use Rattle.subtrees.specs.Problem.{Instance, Mapping, weightOf, Choice, 
 use Rattle.subtrees.specs.Quick.{FoundRooting}
 use Rattle.subtrees.specs.Recursion.{run-solved}
 use Rattle.subtrees.specs.Trees.{IsTree, falls, tree-is-rooted, found-rooting}
-use Rattle.subtrees.specs.WeightLaws.{none≢some, above-some, some-inj, greatest-default, greatest-is}
+use Rattle.subtrees.specs.WeightLaws.{above-some, some-inj, greatest-default}
 
 -- ---- bytes for `on` and `to`
 
@@ -70,7 +69,7 @@ module _ (table r f : List ℕ) (tr : IsTree r) (tf : IsTree f) where
   pub rooting : FoundRooting P (parent f) (depth f)
   rooting = found-rooting r f tr tf (vertexPair table r f) (edgePair table r f)
 
-  -- a found vertex is no 255
+  -- a found vertex is not `noVertex`
   pub no-noVertex : (v : ℕ) → v < count f → v ≢ noVertex
   no-noVertex v l e = let few : count f ≤ vertexLimit = tf .ends .few in omega arith
 
@@ -144,17 +143,6 @@ module _ (table r f : List ℕ) (tr : IsTree r) (tf : IsTree f) where
       ≤ℤ-antisym
       (rw (a .weighs) at (solves-bounds (value table r f) value-solves (a .bytes) (a .mapping)))
       (rw (b .weighs) at (solves-bounds val h (b .bytes) (b .mapping)))
-
-  -- it is 0, or the value of a pair
-  pub largest-top : (val : ℕ → ℕ → ℕ → Weight) → (largest r f val ≡ pos 0) ⊎ ((u : ℕ) × (v : ℕ) × (u < count r) × (v < count f) × (val u v v ≡ some (largest r f val)))
-  unfolding largestW
-  largest-top val = ⊎-elim
-      (λ e. inl (some-inj _ _ (sym (largest-is val) ∙ e)))
-      (λ q. ⊎-elim
-      (λ e. absurd (none≢some (largest r f val) (sym (q .2 ∙ e) ∙ largest-is val)))
-      (λ o. inr (q .0, o .0, mem-below (λ u. true) (count r) (q .0) (q .1) .0, mem-below (λ v. true) (count f) (o .0) (o .1) .0, sym (q .2 ∙ o .2) ∙ largest-is val))
-      (greatest-is (below (λ v. true) (count f)) (λ v. val (q .0) v v) none))
-      (greatest-is (below (λ u. true) (count r)) (λ u. greatest (below (λ v. true) (count f)) (λ v. val u v v) none) (some (pos 0)))
 
   -- ---- the empty mapping
 

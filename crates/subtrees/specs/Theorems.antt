@@ -2,7 +2,7 @@
 -- Assumes nothing.
 use mathlib.Core.Path.{_≡_, sym, _∙_}
 use mathlib.Core.Logic.{_⊎_, _≢_, _↔_}
-use mathlib.Core.Bool.{Bool, true}
+use mathlib.Core.Bool.{true}
 use mathlib.Core.List.{List, _++_}
 use Prim.Native.Nat.{ℕ, _+_, _≤_, _<_}
 use lib.IntN.{ℤ, pos, negℤ}
@@ -14,16 +14,14 @@ use Rattle.model.specs.Limits.{weightLimit, forbidden, ceiling, noVertex}
 use Rattle.model.specs.Mapping.{IsMapping, weight, Heaviest, mappingOk}
 use Rattle.model.specs.Order.{subproblems, uAt, vAt}
 use Rattle.model.specs.Pairs.{vertexPair}
-use Rattle.model.specs.Readout.{readOut, AllLawful, AllAttain}
 use Rattle.model.specs.Tree.{count}
 use Rattle.model.specs.Values.{Subproblem, Solves, value, largest, answer, number, values, recalled, clipped, fill}
-use Rattle.model.specs.Weights.{Weight, none, some}
+use Rattle.model.specs.Weights.{Weight, none}
 use Rattle.formats.specs.Inputs.{Accepted, input-accepted}
 use Rattle.subtrees.specs.Accepted.{recorded-tree, found-tree}
 use Rattle.subtrees.specs.Filling.{fill-right, fill-all, recalled-solves, values-in-range, value-clipped}
-use Rattle.subtrees.specs.Optimal.{value-solves, bounding-bounds, solves-bounds, solves-attained, solves-heaviest, solves-largest, largest-top, empty-is-mapping, empty-weighs, covered-bounding}
+use Rattle.subtrees.specs.Optimal.{value-solves, bounding-bounds, solves-bounds, solves-attained, solves-heaviest, solves-largest, empty-is-mapping, empty-weighs, covered-bounding}
 use Rattle.subtrees.specs.QuickTest.{quick-test}
-use Rattle.subtrees.specs.ReadPair.{lawful-mapping, attains-mapping}
 use Rattle.subtrees.specs.Trees.{IsTree}
 use Rattle.subtrees.specs.ValueRange.{weight-in-range}
 
@@ -72,22 +70,7 @@ module _ (table recorded found : List ℕ) (passes : inputItem table recorded fo
   pub quick-mapping : (p : List ℕ) → (mappingOk table recorded found p ≡ true) ↔ IsMapping table recorded found p
   quick-mapping = quick-test table recorded found tr tf
 
-  -- ---- 5. the read-out
-
-  -- any lawful choice of branch pairs, whatever numbers it was chosen from
-  pub readout-mapping : (has : ℕ → ℕ → ℕ → ℕ → Bool) (mate : ℕ → ℕ → ℕ → ℕ → ℕ) → AllLawful table recorded found has mate → (u v : ℕ) → u < count recorded → v < count found → vertexPair table recorded found u v ≢ none → IsMapping table recorded found (readOut recorded has mate u v)
-  readout-mapping has mate L u v lu lv = lawful-mapping table recorded found tr tf has mate u v lu lv L
-
-  -- a choice that attains the values
-  pub readout-weighs : (given : ℕ → ℕ → ℕ → Weight) → Solves table recorded found given → (has : ℕ → ℕ → ℕ → ℕ → Bool) (mate : ℕ → ℕ → ℕ → ℕ → ℕ) → AllAttain table recorded found given has mate → (u v : ℕ) → u < count recorded → v < count found → (z : ℤ) → given u v v ≡ some z → IsMapping table recorded found (readOut recorded has mate u v) × (weight table recorded found (readOut recorded has mate u v) ≡ z)
-  readout-weighs given S has mate h u v lu lv = attains-mapping table recorded found tr tf has mate u v lu lv given S h
-
-  -- so with the largest value at the top it is a heaviest one, and the empty mapping is where that is 0
-  pub largest-pair : (given : ℕ → ℕ → ℕ → Weight) → (largest recorded found given ≡ pos 0) ⊎ ((u : ℕ) × (v : ℕ) × (u < count recorded) × (v < count found) × (given u v v ≡ some (largest recorded found given)))
-  largest-pair = largest-top table recorded found tr tf
-
-  pub readout-heaviest : (given : ℕ → ℕ → ℕ → Weight) → Solves table recorded found given → (has : ℕ → ℕ → ℕ → ℕ → Bool) (mate : ℕ → ℕ → ℕ → ℕ → ℕ) → AllAttain table recorded found given has mate → (u v : ℕ) → u < count recorded → v < count found → given u v v ≡ some (largest recorded found given) → Heaviest table recorded found (readOut recorded has mate u v)
-  readout-heaviest given S has mate h u v lu lv e = solves-heaviest table recorded found tr tf given S (readOut recorded has mate u v) .1 (readout-weighs given S has mate h u v lu lv (largest recorded found given) e)
+  -- ---- 5. the empty mapping is a heaviest one where the largest value is 0
 
   pub empty-heaviest : (given : ℕ → ℕ → ℕ → Weight) → Solves table recorded found given → largest recorded found given ≡ pos 0 → Heaviest table recorded found (replicate (count recorded) noVertex)
   empty-heaviest given S e = solves-heaviest table recorded found tr tf given S (replicate (count recorded) noVertex) .1 (empty-mapping .0, empty-mapping .1 ∙ sym e)

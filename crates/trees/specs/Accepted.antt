@@ -20,12 +20,12 @@ use Rattle.trees.specs.Components.{AllFresh, component-walk, walk-compon
 
 pub record Whole (s : List ℕ) (n : ℕ) : Type 0 where
   pub some : 1 ≤ n
-  pub few : n ≤ 64
+  pub few : n ≤ vertexLimit
   pub long : length s ≡ 8 * n - 2
 
 pub record Ends (s : List ℕ) (n : ℕ) : Type 0 where
   pub some : 1 ≤ n
-  pub few : n ≤ 64
+  pub few : n ≤ vertexLimit
   pub long : length s ≡ 8 * n - 2
   pub low : (j : ℕ) → j < n - 1 → (endA s n j < n) × (endB s n j < n)
 

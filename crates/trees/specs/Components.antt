@@ -1,7 +1,7 @@
 -- Components: two vertices have the same component exactly if a path by the first i edges joins them; n - 1 edges that close no cycle
 -- leave one component. Assumes nothing.
 use mathlib.Core.Path.{_≡_, refl, sym, ap, _∙_, subst}
-use mathlib.Core.Logic.{inl, inr, _≢_, _↔_}
+use mathlib.Core.Logic.{inl, inr, _≢_}
 use mathlib.Core.Bool.{Bool, true}
 use Prim.Native.Nat.{ℕ, zero, suc, _+_, _≤_, _<_}
 use native.Mathlib.Omega.{arith}
@@ -86,9 +86,6 @@ module _ (a b : ℕ → ℕ) where
       step (same e) r = walk-more (r x y e)
       step (over e f) r = walk-join (walk-more (r x (a i) e)) (go i (omega arith) (inl (refl, refl)) (walk-more (r (b i) y (sym f))))
       step (back e f) r = walk-join (walk-more (r x (b i) e)) (go i (omega arith) (inr (refl, refl)) (walk-more (r (a i) y (sym f))))
-
-  pub component-decides : (i x y : ℕ) → (comp i x ≡ comp i y) ↔ Walk a b i x y
-  component-decides i x y = (component-walk i x y, λ p. walk-component i p)
 
   -- ---- one representative fewer with each edge
 

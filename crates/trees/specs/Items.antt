@@ -48,21 +48,11 @@ first-says [] h = absurd (h refl)
 first-says (item k true ∷ l) h = found
 first-says (item k false ∷ l) h = later (first-says l h)
 
-pub says-first : {k : ℕ} {l : List Item} → First k l → firstOf l ≡ k
-unfolding firstOf
-says-first found = refl
-says-first (later f) = says-first f
-
 pub none-says : {l : List Item} → Numbered l → firstOf l ≡ 0 → NoneApplies l
 unfolding firstOf
 none-says end h = end
 none-says (more {t = true} l r) h = absurd (omega arith)
 none-says (more {t = false} l r) h = passed (none-says r h)
-
-pub says-none : {l : List Item} → NoneApplies l → firstOf l ≡ 0
-unfolding firstOf
-says-none end = refl
-says-none (passed n) = says-none n
 
 -- ---- taken apart
 

@@ -152,7 +152,7 @@ module _ (s : List ℕ) (K L : ℕ) (p : Passed s K L) where
   pub neighbour-row : (v : ℕ) → v < count s → getD (neighbourTable s) v [] ≡ neighbours s v ++ replicate (degreeLimit - length (neighbours s v)) noVertex
   unfolding neighbourTable
   neighbour-row v l =
-      getD-tab (λ x. eight (neighbours s x)) vertexLimit v [] (let f : count s ≤ 64 = p .ends .few in omega arith)
+      getD-tab (λ x. eight (neighbours s x)) vertexLimit v [] (let f : count s ≤ vertexLimit = p .ends .few in omega arith)
       ∙ places-fit degreeLimit noVertex (neighbours s v) (few-neighbours v l)
 
   -- place by place: a neighbour, then none; and in the same places the labels of the edges
@@ -171,7 +171,7 @@ module _ (s : List ℕ) (K L : ℕ) (p : Passed s K L) where
   unfolding edgeLabelTable labelOfPlace
   label-at v i lv l =
       let few : length (neighbours s v) ≤ degreeLimit = few-neighbours v lv in
-      let f : count s ≤ 64 = p .ends .few in
+      let f : count s ≤ vertexLimit = p .ends .few in
       let w : getD (eight (neighbours s v)) i 0 ≡ getD (neighbours s v) i 0 = rw (places-fit degreeLimit noVertex (neighbours s v) few) (List·getD-append (neighbours s v) (replicate (degreeLimit - length (neighbours s v)) noVertex) 0 i l) in
       let m : getD (neighbours s v) i 0 < count s = mem-adjacent s v (getD (neighbours s v) i 0) (getD-mem (neighbours s v) i l) .0 in
       ap (λ (y : List ℕ). getD y i 0) (getD-tab (λ x. tab (λ k. labelOfPlace s x (getD (eight (neighbours s x)) k 0)) degreeLimit) vertexLimit v [] (omega arith))
@@ -180,7 +180,7 @@ module _ (s : List ℕ) (K L : ℕ) (p : Passed s K L) where
       ∙ rw (ne-eqb (getD (neighbours s v) i 0) noVertex (λ e. off m e))
     where
       off : {x : ℕ} → x < count s → x ≡ noVertex → ⊥
-      off l e = let f : count s ≤ 64 = p .ends .few in omega arith
+      off l e = let f : count s ≤ vertexLimit = p .ends .few in omega arith
 
 -- ---- the edge between two vertices
 

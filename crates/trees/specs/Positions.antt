@@ -17,6 +17,7 @@ use Rattle.foundations.specs.Counting.{sum-count, cnt-pair}
 use Rattle.foundations.specs.Lists.{cat-ext}
 use Rattle.foundations.specs.Members.{mem, Distinct, getD-mem, mem-occ, distinct-occ, occ, place-low, place-at, place-one, AllLow, length-once}
 use Rattle.model.specs.Edges.{component}
+use Rattle.model.specs.Limits.{vertexLimit}
 use Rattle.model.specs.Tree.{count, endA, endB, acyclic, degree}
 use Rattle.model.specs.Graph.{neighbours}
 use Rattle.model.specs.Order.{parent, depth, postorderFrom, postorder, position, choices, width, subproblems, offset, slot, index, vertexAt, uAt, vAt, sAt}
@@ -73,12 +74,12 @@ offset-once s v w a b ha hb e = pick (decLt v w) (decLt w v)
     pick (no l) (yes d) = let q = offset-up s w v d in absurd (omega arith)
     pick (no l) (no d) = let q : v ≡ w = omega arith in let z : offset s v ≡ offset s w = ap (offset s) q in (q, omega arith)
 
-pub record Within (s : List ℕ) (i k v : ℕ) : Type 0 where
+pub record PartOf (s : List ℕ) (i k v : ℕ) : Type 0 where
   pub low : v < k
   pub from : offset s v ≤ i
   pub upto : i < offset s v + length (choices s v)
 
-vertex-choices : (s : List ℕ) (i k : ℕ) → i < offset s k → Within s i k (vertexAt s i k)
+vertex-choices : (s : List ℕ) (i k : ℕ) → i < offset s k → PartOf s i k (vertexAt s i k)
 unfolding offset vertexAt
 vertex-choices s i zero h = absurd (off h)
   where
@@ -86,7 +87,7 @@ vertex-choices s i zero h = absurd (off h)
     off h = omega arith
 vertex-choices s i (suc k) h = go (leb (offset s k) i) refl (vertex-choices s i k)
   where
-    go : (t : Bool) → leb (offset s k) i ≡ t → (i < offset s k → Within s i k (vertexAt s i k)) → Within s i (suc k) (cond t k (vertexAt s i k))
+    go : (t : Bool) → leb (offset s k) i ≡ t → (i < offset s k → PartOf s i k (vertexAt s i k)) → PartOf s i (suc k) (cond t k (vertexAt s i k))
     go true e r = record { low = omega arith; from = leb-true (offset s k) i e; upto = h }
     go false e r = let q = r (omega (arith, leb-false (offset s k) i e)) in record { low = omega (arith, q .low); from = q .from; upto = q .upto }
 
@@ -123,15 +124,15 @@ module _ (s : List ℕ) (ends : Ends s (count s)) (loops : acyclic s (count s) �
   postorder-po zero v l = refl
   postorder-po (suc k) v l = rw (children-is s ends loops v l) (ap (λ (m : List ℕ). m ++ (v ∷ [])) (cat-ext (λ w. postorderFrom s k w) (λ w. po (parent s) (count s) k w) (child (parent s) v) (count s) (λ w lw c. postorder-po k w lw)))
 
-  order-is : postorder s ≡ po (parent s) (count s) 64 0
+  order-is : postorder s ≡ po (parent s) (count s) vertexLimit 0
   unfolding postorder
-  order-is = postorder-po 64 0 (ends .some)
+  order-is = postorder-po vertexLimit 0 (ends .some)
 
   pub each : (x : ℕ) → x < count s → occ x (postorder s) ≡ 1
-  each x l = rw order-is (once (count s) (parent s) (depth s) (parent-low s ends loops) (depth-deeper s ends loops) (depth-root s ends loops) 64 x (ends .few) l)
+  each x l = rw order-is (once (count s) (parent s) (depth s) (parent-low s ends loops) (depth-deeper s ends loops) (depth-root s ends loops) vertexLimit x (ends .few) l)
 
   pub all-low : AllLow (count s) (postorder s)
-  all-low = rw order-is (low-po (parent s) (count s) 64 0 (ends .some))
+  all-low = rw order-is (low-po (parent s) (count s) vertexLimit 0 (ends .some))
 
   pub postorder-long : length (postorder s) ≡ count s
   postorder-long = length-once (count s) (postorder s) each all-low
@@ -153,15 +154,15 @@ module _ (s : List ℕ) (ends : Ends s (count s)) (loops : acyclic s (count s) �
       (a, place-one (getD (postorder s) i 0) (postorder s) i (omega arith) (omega arith) refl)
 
   -- a child comes before its parent
-  pub position-kid : (c : ℕ) → c < count s → c ≢ 0 → position s c < position s (parent s c)
+  pub position-child : (c : ℕ) → c < count s → c ≢ 0 → position s c < position s (parent s c)
   unfolding position
-  position-kid c l z =
-      rw order-is (ahead (count s) (parent s) (depth s) (parent-low s ends loops) (depth-deeper s ends loops) 64 0 (parent s c) c
-      (λ y ly. let d : depth s y < count s = depth-low (count s) (parent s) (depth s) (parent-low s ends loops) (depth-deeper s ends loops) (depth-root s ends loops) y ly in let few : count s ≤ 64 = ends .few in omega arith)
+  position-child c l z =
+      rw order-is (ahead (count s) (parent s) (depth s) (parent-low s ends loops) (depth-deeper s ends loops) vertexLimit 0 (parent s c) c
+      (λ y ly. let d : depth s y < count s = depth-low (count s) (parent s) (depth s) (parent-low s ends loops) (depth-deeper s ends loops) (depth-root s ends loops) y ly in let few : count s ≤ vertexLimit = ends .few in omega arith)
       (parent-low s ends loops c l z) l z refl (there (parent s c) (parent-low s ends loops c l z)) .first)
     where
-      there : (x : ℕ) → x < count s → 1 ≤ occ x (po (parent s) (count s) 64 0)
-      there x l = let o = once (count s) (parent s) (depth s) (parent-low s ends loops) (depth-deeper s ends loops) (depth-root s ends loops) 64 x (ends .few) l in omega arith
+      there : (x : ℕ) → x < count s → 1 ≤ occ x (po (parent s) (count s) vertexLimit 0)
+      there x l = let o = once (count s) (parent s) (depth s) (parent-low s ends loops) (depth-deeper s ends loops) (depth-root s ends loops) vertexLimit x (ends .few) l in omega arith
 
 -- ---- two trees
 
@@ -174,10 +175,10 @@ module _ (r f : List ℕ) (er : Ends r (count r)) (lr : acyclic r (count r) ≡ 
   index-low u v s lu lv t = digits-lt (position-low r er lr u lu) (rest-low v s lv t)
 
   -- a child's subproblems come before all its parent's
-  pub index-kid : (c x v u v′ s : ℕ) → c < count r → c ≢ 0 → parent r c ≡ u → x < count f → T (mem v (choices f x)) → index r f c x v < index r f u v′ s
+  pub index-child : (c x v u v′ s : ℕ) → c < count r → c ≢ 0 → parent r c ≡ u → x < count f → T (mem v (choices f x)) → index r f c x v < index r f u v′ s
   unfolding index
-  index-kid c x v u v′ s lc z e lx t =
-      let a : position r c < position r u = subst (λ (y : ℕ). position r c < position r y) e (position-kid r er lr c lc z) in
+  index-child c x v u v′ s lc z e lx t =
+      let a : position r c < position r u = subst (λ (y : ℕ). position r c < position r y) e (position-child r er lr c lc z) in
       let b = digits-lt {q = position r c} {m = position r u} a (rest-low x v lx t) in
       omega arith
 

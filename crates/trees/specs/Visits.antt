@@ -47,7 +47,7 @@ pub visits-skip : (t : List (List ℕ)) (k v from i : ℕ) (l : List ℕ) → go
 unfolding visits gather
 visits-skip t k v from i l h = rw (add-one, gather, h) (ap (λ m. l ++ m) (append-nil _))
 
-pub visits-all : (t : List (List ℕ)) (k k′ v from i : ℕ) (l : List ℕ) → k ≡ suc k′ → i ≡ 8 → (l ++ visits t k′ v from i) ++ (v ∷ []) ≡ l ++ post t k v from
+pub visits-all : (t : List (List ℕ)) (k k′ v from i : ℕ) (l : List ℕ) → k ≡ suc k′ → i ≡ degreeLimit → (l ++ visits t k′ v from i) ++ (v ∷ []) ≡ l ++ post t k v from
 unfolding visits post
 visits-all t k k′ v from i l e h = rw (e, h) (append-assoc l _ (v ∷ []))
 
@@ -55,11 +55,11 @@ pub post-none : (t : List (List ℕ)) (k v from : ℕ) (l : List ℕ) → k ≡ 
 unfolding post
 post-none t k v from l e = rw e (append-nil l)
 
-pub goes-low : (w from : ℕ) → goes w from ≡ true → w < 64
+pub goes-low : (w from : ℕ) → goes w from ≡ true → w < vertexLimit
 goes-low w from h = step (ltb w vertexLimit) refl
   where
-    step : (t : Bool) → ltb w 64 ≡ t → w < 64
-    step true e = ltb-true w 64 e
+    step : (t : Bool) → ltb w vertexLimit ≡ t → w < vertexLimit
+    step true e = ltb-true w vertexLimit e
     step false e = absurd (false≢true (rw e at h))
 
 -- ---- an accepted tree's table
@@ -67,7 +67,7 @@ goes-low w from h = step (ltb w vertexLimit) refl
 module _ (s : List ℕ) (K L : ℕ) (p : Passed s K L) where
   -- the neighbours that are not the parent are the children
   away : (v w : ℕ) → w < count s → (joined s v w && goes w (parent s v)) ≡ (joined s v w && not (eqb w (parent s v)))
-  away v w l = rw (lt-ltb w vertexLimit (let f : count s ≤ 64 = p .ends .few in omega arith))
+  away v w l = rw (lt-ltb w vertexLimit (let f : count s ≤ vertexLimit = p .ends .few in omega arith))
 
   -- a visit of v from its parent (of the root from itself) is the model's postorder of what is below v
   pub post-is : (k v : ℕ) → v < count s → post (neighbourTable s) k v (parent s v) ≡ postorderFrom s k v
@@ -76,7 +76,7 @@ module _ (s : List ℕ) (K L : ℕ) (p : Passed s K L) where
   post-is (suc k) v l = ap (λ (m : List ℕ). m ++ (v ∷ [])) (step (λ w lw. post-is k w lw))
     where
       row : getD (neighbourTable s) v [] ≡ eight (neighbours s v)
-      row = unfold neighbourTable in getD-tab (λ x. eight (neighbours s x)) vertexLimit v [] (let f : count s ≤ 64 = p .ends .few in omega arith)
+      row = unfold neighbourTable in getD-tab (λ x. eight (neighbours s x)) vertexLimit v [] (let f : count s ≤ vertexLimit = p .ends .few in omega arith)
 
       step : ((w : ℕ) → w < count s → post (neighbourTable s) k w (parent s w) ≡ postorderFrom s k w) → gather (λ w. cond (goes w (parent s v)) (post (neighbourTable s) k w v) []) (getD (neighbourTable s) v []) degreeLimit ≡ cat (λ w. postorderFrom s k w) (children s v)
       step r =
@@ -117,8 +117,8 @@ pub record Ordered (s at : List ℕ) (len : ℕ) : Type 0 where
 pub ordered : (s : List ℕ) (K L : ℕ) (p : Passed s K L) (at : List ℕ) (len : ℕ) → Holds vertexLimit noVertex (postorder s) at len → Ordered s at len
 ordered s K L p at len h =
     let n : length (postorder s) ≡ count s = postorder-long s (p .ends) (p .tree) in
-    let few : count s ≤ 64 = p .ends .few in
-    let u : len ≡ min 64 (length (postorder s)) = h .used in
+    let few : count s ≤ vertexLimit = p .ends .few in
+    let u : len ≡ min vertexLimit (length (postorder s)) = h .used in
     record {
       long = omega arith;
       get = λ i l. rw (h .held, places-fit vertexLimit noVertex (postorder s) (omega arith)) (List·getD-append (postorder s) (replicate (vertexLimit - length (postorder s)) noVertex) 0 i (omega arith));
@@ -128,30 +128,30 @@ ordered s K L p at len h =
 
 -- the first k of the places of an order
 pub record Placed (at : List ℕ) (k : ℕ) (p : List ℕ) : Type 0 where
-  pub long : length p ≡ 64
+  pub long : length p ≡ vertexLimit
   pub back : (i : ℕ) → i < k → getD p (getD at i 0) 0 ≡ i
 
 -- what the code needs of the order: vertices, no two the same
 pub record Different (at : List ℕ) (len : ℕ) : Type 0 where
-  pub few : len ≤ 64
-  pub low : (i : ℕ) → i < len → getD at i 0 < 64
+  pub few : len ≤ vertexLimit
+  pub low : (i : ℕ) → i < len → getD at i 0 < vertexLimit
   pub differ : (i j : ℕ) → i < j → j < len → getD at i 0 ≢ getD at j 0
 
 pub placed-more : (at : List ℕ) (len k : ℕ) (p : List ℕ) → Different at len → k < len → Placed at k p → Placed at (k + 1) (set p (getD at k 0) k)
 placed-more at len k p h l v =
-    let b : getD at k 0 < 64 = h .low k l in
-    let e : length p ≡ 64 = v .long in
+    let b : getD at k 0 < vertexLimit = h .low k l in
+    let e : length p ≡ vertexLimit = v .long in
     record { long = length-set p (getD at k 0) k ∙ e; back = λ i m. step i m (ℕ-discrete i k) }
   where
     step : (i : ℕ) → i < k + 1 → Dec (i ≡ k) → getD (set p (getD at k 0) k) (getD at i 0) 0 ≡ i
-    step i m (yes q) = rw q (getD-set-same p (getD at k 0) k 0 (let b : getD at k 0 < 64 = h .low k l in let e : length p ≡ 64 = v .long in omega arith))
+    step i m (yes q) = rw q (getD-set-same p (getD at k 0) k 0 (let b : getD at k 0 < vertexLimit = h .low k l in let e : length p ≡ vertexLimit = v .long in omega arith))
     step i m (no q) = getD-set-other p (getD at k 0) (getD at i 0) k 0 (h .differ i k (omega arith) l) ∙ v .back i (omega arith)
 
 module _ (s : List ℕ) (K L : ℕ) (p : Passed s K L) (at : List ℕ) (len : ℕ) (o : Ordered s at len) where
   pub ordered-different : Different at len
   ordered-different =
       let n : len ≡ count s = o .long in
-      let few : count s ≤ 64 = p .ends .few in
+      let few : count s ≤ vertexLimit = p .ends .few in
       record {
         few = omega arith;
         low = λ i l. rw (o .get i (omega arith)) (let q : getD (postorder s) i 0 < count s = position-of s (p .ends) (p .tree) i (omega arith) .0 in omega arith);

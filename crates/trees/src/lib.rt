@@ -3,8 +3,9 @@ ghost use Prim.Native.Nat.{ℕ, _<_};
 ghost use mathlib.Core.List.{List, [], _∷_, _++_};
 ghost use Rattle.foundations.specs.Lists.{Holds};
 ghost use Rattle.trees.specs.Visits.{post, OrderOf, Different, Placed};
+ghost use Rattle.model.specs.Limits.{vertexLimit, noVertex};
 
-// Vertices in an order: the first `len` places of `at`, and 255 in the others.
+// Vertices in an order: the first `len` places of `at`, and `NONE` in the others.
 pub struct Order {
     pub at: [u8; 64],
     pub len: usize,
@@ -12,10 +13,10 @@ pub struct Order {
 
 // The order with one vertex more, or unchanged where it is full.
 fn push(o: Order, x: u8) -> Order
-    ensures { λ r. ⌜ ((l : List ℕ) → Holds 64 255 l (o .at) (o .len) → Holds 64 255 (l ++ (x ∷ [])) (r .at) (r .len)) ⌝ }
+    ensures { λ r. ⌜ ((l : List ℕ) → Holds vertexLimit noVertex l (o .at) (o .len) → Holds vertexLimit noVertex (l ++ (x ∷ [])) (r .at) (r .len)) ⌝ }
 {
     let len = o.len;
-    if 64 <= len {
+    if model::Limits::ROWS <= len {
         return o;
     }
     let mut r = o;
@@ -26,17 +27,17 @@ fn push(o: Order, x: u8) -> Order
 
 // The order with what lies below v, away from `from`, and then v; to a depth of k.
 fn visit(t: &[[u8; 8]; 64], v: u8, from: u8, k: usize, o: Order) -> Order
-    requires { ⌜ v < 64 ⌝ }
-    ensures { λ r. ⌜ ((l : List ℕ) → Holds 64 255 l (o .at) (o .len) → Holds 64 255 (l ++ post (now (t .entry)) k v from) (r .at) (r .len)) ⌝ }
+    requires { ⌜ v < vertexLimit ⌝ }
+    ensures { λ r. ⌜ ((l : List ℕ) → Holds vertexLimit noVertex l (o .at) (o .len) → Holds vertexLimit noVertex (l ++ post (now (t .entry)) k v from) (r .at) (r .len)) ⌝ }
 {
     if k == 0 {
         return o;
     }
     let mut r = o;
     let mut i: usize = 0;
-    while i < 8 {
+    while i < model::Limits::PLACES {
         let w = t[v as usize][i];
-        if (w < 64) & (w != from) {
+        if (w < model::Limits::VERTICES) & (w != from) {
             let q = visit(t, w, v, k - 1, r);
             r = q;
         }
@@ -50,10 +51,10 @@ pub fn postorder(t: &[[u8; 8]; 64]) -> Order
     ensures { λ r. ⌜ OrderOf (now (t .entry)) (r .at) (r .len) ⌝ }
 {
     let o = Order {
-        at: [255u8; 64],
+        at: [model::Limits::NONE; 64],
         len: 0,
     };
-    visit(t, 0, 0, 64, o)
+    visit(t, 0, 0, model::Limits::ROWS, o)
 }
 
 // Each vertex's place in an order of different vertices.
@@ -63,7 +64,7 @@ pub fn places(o: Order) -> [u8; 64]
 {
     let at = o.at;
     let len = o.len;
-    let mut p = [255u8; 64];
+    let mut p = [model::Limits::NONE; 64];
     let mut i: usize = 0;
     while i < len {
         let x = at[i];

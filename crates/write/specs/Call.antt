@@ -1,5 +1,5 @@
 -- What solving and writing leaves: the values, and a certificate that the check accepts. Assumes nothing.
-use mathlib.Core.Path.{_≡_, ap, _∙_}
+use mathlib.Core.Path.{_≡_, refl, ap, _∙_}
 use mathlib.Core.List.{List, _++_}
 use Prim.Native.Nat.{ℕ, _+_, _*_, _≤_, _<_}
 use native.Mathlib.Omega.{arith}
@@ -26,15 +26,14 @@ use Rattle.write.specs.Frames.{front-left, front-weighs, front-same, rec
 use Rattle.write.specs.Records.{Full, RecordsLeft, record-first}
 
 -- the work numbers are the values; the front of the buffer is a certificate that the check accepts, with the values, the answer's weight and a heaviest
--- mapping in it, and l is its length
-pub record Left (table r f : List ℕ) (work : List ℤ) (z : List ℕ) (work′ : List ℤ) (z′ : List ℕ) (l : ℕ) : Type 0 where
+-- mapping in it
+pub record Left (table r f : List ℕ) (work : List ℤ) (z : List ℕ) (work′ : List ℤ) (z′ : List ℕ) : Type 0 where
   pub filled : work′ ≡ values table r f ++ drop (subproblems r f) work
   pub rest : z′ ≡ take (certificateLength r f) z′ ++ drop (certificateLength r f) z
   pub accepted : checkOf table r f (take (certificateLength r f) z′) ≡ 0
   pub values-in : (k : ℕ) → k < subproblems r f → valueIn r f (take (certificateLength r f) z′) k ≡ valueAt table r f k
   pub weight-in : weightIn (take (certificateLength r f) z′) ≡ answer table r f
   pub heaviest-in : Heaviest table r f (mappingIn r (take (certificateLength r f) z′))
-  pub long : l ≡ certificateLength r f
 
 -- solved work numbers hold the values
 pub solved-full : {table r f : List ℕ} {work : List ℤ} {m : List ℕ} {work′ : List ℤ} {m′ : List ℕ} {w : ℤ} → inputItem table r f ≡ 0 → Solved table r f work m work′ m′ w → Full table r f work′
@@ -47,10 +46,13 @@ pub front-room : (table r f : List ℕ) → inputItem table r f ≡ 0 → 8 + 3 
 front-room table r f passes = rw (length-closed table r f passes) at (record-first r f (subproblems r f))
 
 module _ {table r f : List ℕ} {work : List ℤ} {m : List ℕ} {work′ : List ℤ} {m′ : List ℕ} {w : ℤ} {z y z′ : List ℕ} (passes : inputItem table r f ≡ 0)
-    (S : Solved table r f work m work′ m′ w) (F : FrontPut (count r) (count f) w m′ z y) (full : Full table r f work′) (R : RecordsLeft table r f work′ (subproblems r f) y z′)
+    (S : Solved table r f work m work′ m′ w) (F : FrontPut (count r) (count f) w m′ z y) (full : Full table r f work′) (R : RecordsLeft table r f work′ 0 (subproblems r f) y z′)
     (room : certificateLength r f ≤ length z) where
   end : recordAt r f (subproblems r f) ≡ certificateLength r f
   end = length-closed table r f passes
+
+  start : recordAt r f 0 ≡ 8 + 3 * count r
+  start = unfold recordAt in refl
 
   -- a mapping of the recorded vertices lies in the array
   enough : count r ≤ length m′
@@ -60,16 +62,16 @@ module _ {table r f : List ℕ} {work : List ℤ} {m : List ℕ} {work′ : List
   ahead = front-room table r f passes
 
   kept : Kept 0 (certificateLength r f) z z′
-  kept = rw (← end) (kept-then (omega arith) (record-first r f (subproblems r f)) (F .kept) (R .kept))
+  kept = rw (← end) (kept-then (omega arith) (record-first r f (subproblems r f)) (F .kept) (rw start at (R .kept)))
 
   front : FrontLeft r f (take (certificateLength r f) z′) m′ (answer table r f)
   front =
       let a : FrontLeft r f y m′ (answer table r f) = front-weighs (S .answered) (front-left F) in
-      let b : FrontLeft r f z′ m′ (answer table r f) = front-same (kept-alike (R .kept) (omega arith)) a in
+      let b : FrontLeft r f z′ m′ (answer table r f) = front-same (kept-alike (rw start at (R .kept)) (omega arith)) a in
       front-same (alike-part (omega arith) ahead (take-alike 0 (certificateLength r f) z′)) b
 
   records : (k : ℕ) → k < subproblems r f → RecordLeft table r f work′ (take (certificateLength r f) z′) k
-  records k h = record-same (alike-part (omega arith) (record-inside table r f passes k h) (take-alike 0 (certificateLength r f) z′)) (R .left k h)
+  records k h = record-same (alike-part (omega arith) (record-inside table r f passes k h) (take-alike 0 (certificateLength r f) z′)) (R .left k (omega arith) h)
 
   long : length (take (certificateLength r f) z′) ≡ certificateLength r f
   long = let e = kept .size in simp length-take (omega arith)
@@ -81,8 +83,8 @@ module _ {table r f : List ℕ} {work : List ℤ} {m : List ℕ} {work′ : List
   unfolding valueAt
   value-in k h = records k h .value ∙ work-at table r f passes work′ (full .filled) k h
 
-  pub written-left : {l : ℕ} → l ≡ certificateLength r f → Left table r f work z work′ z′ l
-  written-left e =
+  pub written-left : Left table r f work z work′ z′
+  written-left =
       record {
         filled = S .filled;
         rest = kept-rest kept;
@@ -90,5 +92,4 @@ module _ {table r f : List ℕ} {work : List ℤ} {m : List ℕ} {work′ : List
         values-in = value-in;
         weight-in = front .weighs;
         heaviest-in = certificate-sound table r f (take (certificateLength r f) z′) accepted .0;
-        long = e;
       }

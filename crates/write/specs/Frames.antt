@@ -1,19 +1,25 @@
 -- A record and the front of a certificate from the bytes that were stored, and that each depends on its own bytes only. Assumes nothing.
 use mathlib.Core.Path.{_≡_, sym, ap, _∙_, subst}
+use mathlib.Core.Logic.{⊎-elim}
 use mathlib.Core.List.{List}
-use Prim.Native.Nat.{ℕ, _+_, _*_, _≤_}
+use Prim.Native.Nat.{ℕ, _+_, _*_, _≤_, _<_}
 use native.Mathlib.Omega.{arith}
-use lib.ListN.{length, getD}
+use native.Mathlib.Nat.{not-suc-le-zero}
+use lib.ListN.{length, getD, set, length-set}
+use lib.Seq.{getD-set-same, getD-set-other}
 use lib.IntN.{ℤ, pos}
+use Rattle.foundations.specs.Tests.{same?}
+use Rattle.model.specs.Limits.{degreeLimit, dualLimit}
+use Rattle.model.specs.Graph.{neighbours}
 use Rattle.model.specs.Certificate.{headMark, partnerMark, recordMark, others, recordAt, recordLength, valueIn, childDual, otherDual}
-use Rattle.model.specs.Order.{children, uAt, vAt, sAt}
+use Rattle.model.specs.Order.{children, uAt}
 use Rattle.model.specs.Tree.{count}
-use Rattle.records.specs.Rows.{PlaceOf}
+use Rattle.records.specs.Others.{othersOf, columnIn, others-few, OthersAt, others-stand}
+use Rattle.records.specs.Places.{NumberAt}
 use Rattle.duals.specs.Left.{DualsAt, RecordLeft, FrontLeft}
 use Rattle.put.specs.Kept.{Kept, Alike, alike-byte, alike-mark, alike-number}
-use Rattle.put.specs.Puts.{column, rowOf, RecordPut}
+use Rattle.put.specs.Puts.{Fit, RecordPut}
 use Rattle.put.specs.Front.{FrontPut}
-use Rattle.write.specs.Others.{skipOf, OthersAt, column-low}
 
 -- ---- the front
 
@@ -55,28 +61,78 @@ record-same {table} {r} {f} {work} {z} {z′} {k} A R =
       ofOther = λ j h. alike-number A (b + 6 + 4 * c + 4 * j) (omega arith) (omega arith) ∙ R .ofOther j h;
     }
 
+-- ---- what is stored of one record
+
+-- r has the duals of the neighbours other than the q-th choice, in order, from x, which has all neighbours' in their places
+pub record OthersRow (l q : ℕ) (x r : List ℕ) : Type 0 where
+  pub long : length r ≡ 8
+  pub get : (j : ℕ) → j < l → getD r j 0 ≡ getD x (columnIn q j) 0
+
+pub others-none : (q : ℕ) (x r : List ℕ) → length r ≡ 8 → OthersRow 0 q x r
+others-none q x r e = record { long = e; get = λ j h. absurd (not-suc-le-zero h) }
+
+pub others-more : (l q p : ℕ) (x r : List ℕ) → l < 8 → p ≡ columnIn q l → OthersRow l q x r → OthersRow (l + 1) q x (set r l (getD x p 0))
+others-more l q p x r h e R =
+    let n : length r ≡ 8 = R .long in
+    record {
+      long = length-set r l (getD x p 0) ∙ n;
+      get = λ j b. ⊎-elim
+          (λ g. rw (g, getD-set-same r l (getD x p 0) 0 (omega arith)) (ap (λ (y : ℕ). getD x y 0) e))
+          (λ g. rw (getD-set-other r l j (getD x p 0) 0 g) (R .get j (omega arith)))
+          (same? j l);
+    }
+
+-- y has duals of k children, x those of d neighbours, and each fits; s is the q-th choice
+pub record OneFits (y x : List ℕ) (k d q : ℕ) : Type 0 where
+  pub choice : q ≤ d
+  pub degree : d ≤ degreeLimit
+  pub few : k ≤ degreeLimit
+  pub inside : (j : ℕ) → j < othersOf d q → columnIn q j < d
+  pub child-low : (i : ℕ) → i < k → getD y i 0 ≤ dualLimit
+  pub neighbour-low : (j : ℕ) → j < d → getD x j 0 ≤ dualLimit
+
+pub record OnePut (here : ℕ) (w : ℤ) (y : List ℕ) (k : ℕ) (x : List ℕ) (d q : ℕ) (z z′ : List ℕ) : Type 0 where
+  pub row : List ℕ
+  pub others-in : OthersRow (othersOf d q) q x row
+  pub stored : RecordPut here w y k row (othersOf d q) z z′
+
+module _ {y x : List ℕ} {k d q : ℕ} (F : OneFits y x k d q) where
+  pub fit-children : Fit y k
+  fit-children = record { few = F .few; low = F .child-low }
+
+  pub fit-others : {l : ℕ} {row : List ℕ} → l ≡ othersOf d q → OthersRow l q x row → Fit row l
+  fit-others {l} {row} e R =
+      let a : othersOf d q ≤ d = others-few d q in
+      let b = F .degree in
+      record { few = omega arith; low = λ j h. rw (R .get j h) (F .neighbour-low (columnIn q j) (F .inside j (omega arith))) }
+
+pub one-put : {here l : ℕ} {v w : ℤ} {y : List ℕ} {k : ℕ} {x row : List ℕ} {d q : ℕ} {z z′ : List ℕ} → l ≡ othersOf d q → v ≡ w → OthersRow l q x row → RecordPut here v y k row l z z′ → OnePut here w y k x d q z z′
+one-put {row = row} e g R B = record { row = row; others-in = rw e at R; stored = rw (e, g) at B }
+
 -- the record that was stored for subproblem k
-module _ {table r f : List ℕ} {work : List ℤ} {z z′ : List ℕ} {k row u v q s here : ℕ} {w : ℤ} {y x : List ℕ} {c l : ℕ}
-    (P : PlaceOf r f k row u v q s here) (O : OthersAt f v q s) (D : DualsAt table r f work u v s y x) (B : RecordPut here w y c x l (skipOf q) z z′)
-    (children-are : c ≡ length (children r u)) (few : c ≤ 8) (others-are : l ≡ length (others f v s)) (value-is : w ≡ getD work k (pos 0)) where
+module _ {table r f : List ℕ} {work : List ℤ} {z z′ : List ℕ} {k u v q s here : ℕ} {w : ℤ} {y x : List ℕ} {c d : ℕ}
+    (P : NumberAt r f u v s k) (O : OthersAt f v q s) (D : DualsAt table r f work u v s y x) (B : OnePut here w y c x d q z z′)
+    (begins : here ≡ recordAt r f k) (children-are : c ≡ length (children r u)) (degree-is : d ≡ length (neighbours f v)) (value-is : w ≡ getD work k (pos 0)) where
+  others-are : othersOf d q ≡ length (others f v s)
+  others-are = rw degree-is (sym (O .number))
+
   pub record-left : RecordLeft table r f work z′ k
-  unfolding valueIn childDual otherDual rowOf
+  unfolding valueIn childDual otherDual
   record-left =
       record {
         y = y;
         x = x;
-        duals = rw (← P .u-is, ← P .v-is, ← P .s-is) D;
-        mark = rw (← P .begins) (B .mark);
-        value = rw (← P .begins) (B .value ∙ value-is);
-        ofChild = rw (← P .begins, ← P .u-is) (λ i h.
-            let e : column 8 i ≡ i = column-low 8 i (omega arith) in
-            B .ofChild i (omega arith) ∙ ap (λ (m : ℕ). pos (getD y m 0)) e);
-        ofOther = rw (← P .begins, ← P .u-is, ← P .v-is, ← P .s-is, ← children-are) (λ j h.
-            B .ofOther j (omega arith) ∙ ap (λ (m : ℕ). pos (getD x m 0)) (sym (O .stands j h)));
+        duals = rw (P .u-is, P .v-is, P .s-is) D;
+        mark = rw (← begins) (B .stored .mark);
+        value = rw (← begins) (B .stored .value ∙ value-is);
+        ofChild = rw (← begins, P .u-is) (λ i h. B .stored .ofChild i (omega arith));
+        ofOther = rw (← begins, P .u-is, P .v-is, P .s-is, ← children-are) (λ j h.
+            let e = others-are in
+            B .stored .ofOther j (omega arith) ∙ ap pos (B .others-in .get j (omega arith) ∙ ap (λ (m : ℕ). getD x m 0) (sym (others-stand O j h))));
       }
 
   pub record-kept : Kept (recordAt r f k) (recordAt r f k + recordLength r f k) z z′
-  unfolding recordLength
   record-kept =
-      let e : here + 6 + 4 * c + 4 * l ≡ recordAt r f k + (6 + 4 * length (children r (uAt r f k)) + 4 * length (others f (vAt f k) (sAt f k))) = rw (← P .u-is, ← P .v-is, ← P .s-is, ← P .begins, ← children-are, ← others-are) (omega arith) in
-      rw (← e, ← P .begins) (B .kept)
+      let o = others-are in
+      let e : here + 6 + 4 * c + 4 * othersOf d q ≡ recordAt r f k + recordLength r f k = rw (P .long, ← begins, ← children-are, ← o) (omega arith) in
+      rw (← e, ← begins) (B .stored .kept)

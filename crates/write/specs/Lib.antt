@@ -1,5 +1,4 @@
 -- What writing a certificate leaves.
-pub mod Others
 pub mod Frames
 pub mod Records
 pub mod Items

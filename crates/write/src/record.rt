@@ -1,197 +1,157 @@
-//! The records of a certificate: that of one subproblem, and all in order.
-use duals::duals_at;
+//! The records of a certificate: that of a subproblem, those of a pair of vertices, of a recorded vertex, and all in order.
+use duals::Duals;
+use duals::duals_of;
+use duals::pair_gains;
 use formats::tree::vertex_count;
+use plan::child_count;
+use plan::counts::width_of;
+use plan::degree;
+use plan::in_order;
+use plan::offset as offset_of;
+use plan::weights::vertex_pair;
 use put::put_record;
-use records::degree_of;
-use records::place_of;
-use records::record_sizes;
-use records::row_begins;
-use records::square_sums;
-use solver::subproblem::width_of;
-ghost use mathlib.Core.Path.{_≡_};
-ghost use Prim.Native.Nat.{_≤_, _<_};
+use records::column;
+use records::others_of;
+use records::record_at;
+ghost use Prim.Native.Nat.{ℕ, _+_, _*_, _≤_, _<_};
 ghost use lib.ListN.{length};
-ghost use Rattle.model.specs.Order.{subproblems};
+ghost use Rattle.model.specs.Limits.{degreeLimit};
+ghost use Rattle.model.specs.Tree.{count};
+ghost use Rattle.model.specs.Order.{offset, width, subproblems};
 ghost use Rattle.model.specs.Certificate.{certificateLength};
-ghost use Rattle.solver.specs.Plan.{Ready};
-ghost use Rattle.write.specs.Others.{skipOf, othersOf};
-ghost use Rattle.write.specs.Records.{Full, Writable, OneLeft, RecordsLeft};
+ghost use Rattle.plan.specs.Plan.{Ready};
+ghost use Rattle.records.specs.Others.{othersOf, columnIn};
+ghost use Rattle.records.specs.Places.{Laid};
+ghost use Rattle.write.specs.Frames.{OthersRow, OneFits, OnePut};
+ghost use Rattle.write.specs.Records.{Full, RecordsLeft};
 
-// Which neighbour's dual is left out for the q-th choice of s: none for the first, which is v itself.
-fn skip_of(q: usize) -> usize
-    ensures { λ r. ⌜ r ≡ skipOf q ⌝ }
+// The duals of the l neighbours other than the q-th choice of s, in order.
+fn others_row(x: &[u64; 8], l: usize, q: usize) -> [u64; 8]
+    requires { ⌜ l ≤ degreeLimit ⌝ }
+    requires { ⌜ ((j : ℕ) → j < l → columnIn q j < degreeLimit) ⌝ }
+    ensures { λ r. ⌜ OthersRow l q (now (x .entry)) r ⌝ }
 {
-    if q == 0 { 8 } else { q - 1 }
+    let mut r = [0u64; 8];
+    let mut j = 0;
+    while j < l {
+        let p = column(q, j);
+        r[j] = x[p];
+        j += 1;
+    }
+    r
 }
 
-// How many of d neighbours are other than the q-th choice of s.
-fn others_of(d: usize, q: usize) -> usize
-    requires { ⌜ q ≤ d ⌝ }
-    ensures { λ r. ⌜ r ≡ othersOf d q ⌝ }
-{
-    if q == 0 { d } else { d - 1 }
-}
-
-// Stores the record of subproblem k.
+// Stores the record at `at`: the value, the duals of k children, and those of d neighbours but the q-th choice of s.
 fn put_one(
-    table: &[u8],
-    recorded: &[u8],
-    found: &[u8],
-    weights: &[i32; 64],
-    rnear: &[[u8; 8]; 64],
-    rlabels: &[[u8; 8]; 64],
-    fnear: &[[u8; 8]; 64],
-    flabels: &[[u8; 8]; 64],
-    order: &[u8; 64],
-    place: &[u8; 64],
-    starts: &[usize; 65],
-    begins: &[usize; 65],
-    sizes: &[usize; 64],
-    sums: &[usize; 65],
-    work: &[i32],
     certificate: &mut [u8],
+    at: usize,
+    value: i32,
+    duals: Duals,
     k: usize,
+    d: usize,
+    q: usize,
 )
-    requires { ⌜ Writable (now table) (now recorded) (now found) (now weights) (now rnear) (now rlabels) (now fnear) (now flabels) (now order) (now place) (now starts) (now begins) (now sizes) (now sums) (now work) ⌝ }
-    requires { ⌜ certificateLength (now recorded) (now found) ≤ length (now certificate) ⌝ }
-    requires { ⌜ k < subproblems (now recorded) (now found) ⌝ }
-    ensures { λ _. ⌜ OneLeft (now (table .entry)) (now (recorded .entry)) (now (found .entry)) (now (work .entry)) k (now (certificate .entry)) (now (certificate .exit)) ⌝ }
+    requires { ⌜ OneFits (duals .children) (duals .neighbours) k d q ⌝ }
+    requires { ⌜ at + 6 + 4 * k + 4 * othersOf d q ≤ length (now certificate) ⌝ }
+    ensures { λ _. ⌜ OnePut at value (duals .children) k (duals .neighbours) d q (now (certificate .entry)) (now (certificate .exit)) ⌝ }
 {
-    let p = place_of(
-        recorded,
-        found,
-        fnear,
-        order,
-        starts,
-        begins,
-        sizes,
-        sums,
-        k,
-    );
-    let row = p.row;
-    let u = p.u;
-    let v = p.v;
-    let q = p.q;
-    let s = p.s;
-    let at = p.at;
-    let duals = duals_at(
-        table,
-        recorded,
-        found,
-        weights,
-        rnear,
-        rlabels,
-        fnear,
-        flabels,
-        place,
-        starts,
-        work,
-        u,
-        v,
-        s,
-    );
-    let y = duals.children;
-    let x = duals.neighbours;
-    let c = (sizes[row] - 6) / 4;
-    let l = others_of(degree_of(found, starts, v as usize), q);
-    put_record(certificate, at, work[k], &y, c, &x, l, skip_of(q));
+    let children = duals.children;
+    let neighbours = duals.neighbours;
+    let l = others_of(d, q);
+    let others = others_row(&neighbours, l, q);
+    put_record(certificate, at, value, &children, k, &others, l);
 }
 
-// Stores the records of all subproblems in order.
-fn put_all(
+// Stores the records of the i-th vertex in postorder and v, one for each choice of s.
+fn put_pair(
     table: &[u8],
     recorded: &[u8],
     found: &[u8],
-    weights: &[i32; 64],
-    rnear: &[[u8; 8]; 64],
-    rlabels: &[[u8; 8]; 64],
-    fnear: &[[u8; 8]; 64],
-    flabels: &[[u8; 8]; 64],
-    order: &[u8; 64],
-    place: &[u8; 64],
-    starts: &[usize; 65],
-    begins: &[usize; 65],
-    sizes: &[usize; 64],
-    sums: &[usize; 65],
+    plan: &[[u8; 8]; 512],
+    places: &[[usize; 2]; 65],
     work: &[i32],
     certificate: &mut [u8],
+    i: usize,
+    v: u8,
 )
-    requires { ⌜ Writable (now table) (now recorded) (now found) (now weights) (now rnear) (now rlabels) (now fnear) (now flabels) (now order) (now place) (now starts) (now begins) (now sizes) (now sums) (now work) ⌝ }
+    requires { ⌜ Ready (now table) (now recorded) (now found) (now plan) ⌝ }
+    requires { ⌜ Laid (now recorded) (now found) (now plan) (now places) ⌝ }
+    requires { ⌜ Full (now table) (now recorded) (now found) (now work) ⌝ }
     requires { ⌜ certificateLength (now recorded) (now found) ≤ length (now certificate) ⌝ }
-    ensures { λ _. ⌜ RecordsLeft (now (table .entry)) (now (recorded .entry)) (now (found .entry)) (now (work .entry)) (subproblems (now (recorded .entry)) (now (found .entry))) (now (certificate .entry)) (now (certificate .exit)) ⌝ }
+    requires { ⌜ (i < count (now recorded)) × (v < count (now found)) ⌝ }
+    ensures { λ _. ⌜ RecordsLeft (now (table .entry)) (now (recorded .entry)) (now (found .entry)) (now (work .entry)) (i * width (now (found .entry)) + offset (now (found .entry)) v) (i * width (now (found .entry)) + offset (now (found .entry)) (v + 1)) (now (certificate .entry)) (now (certificate .exit)) ⌝ }
 {
-    let n = vertex_count(recorded) * width_of(found);
-    let mut k = 0;
-    while k < n {
-        put_one(
-            table,
-            recorded,
-            found,
-            weights,
-            rnear,
-            rlabels,
-            fnear,
-            flabels,
-            order,
-            place,
-            starts,
-            begins,
-            sizes,
-            sums,
-            work,
-            certificate,
-            k,
-        );
-        k += 1;
+    let u = in_order(plan, i);
+    let w = vertex_pair(table, recorded, found, u, v);
+    let g = pair_gains(table, recorded, found, plan, work, u, v, w);
+    let k = child_count(plan, u);
+    let d = degree(plan, v);
+    let base = i * width_of(found) + offset_of(plan, v);
+    let mut q = 0;
+    while q <= d {
+        let duals = duals_of(w, &g, k, d, q);
+        let at = record_at(recorded, found, plan, places, i, v, q);
+        put_one(certificate, at, work[base + q], duals, k, d, q);
+        q += 1;
     }
 }
 
-// Finds where the records stand, and stores them.
+// Stores the records of the i-th vertex in postorder.
+fn put_row(
+    table: &[u8],
+    recorded: &[u8],
+    found: &[u8],
+    plan: &[[u8; 8]; 512],
+    places: &[[usize; 2]; 65],
+    work: &[i32],
+    certificate: &mut [u8],
+    i: usize,
+)
+    requires { ⌜ Ready (now table) (now recorded) (now found) (now plan) ⌝ }
+    requires { ⌜ Laid (now recorded) (now found) (now plan) (now places) ⌝ }
+    requires { ⌜ Full (now table) (now recorded) (now found) (now work) ⌝ }
+    requires { ⌜ certificateLength (now recorded) (now found) ≤ length (now certificate) ⌝ }
+    requires { ⌜ i < count (now recorded) ⌝ }
+    ensures { λ _. ⌜ RecordsLeft (now (table .entry)) (now (recorded .entry)) (now (found .entry)) (now (work .entry)) (i * width (now (found .entry))) ((i + 1) * width (now (found .entry))) (now (certificate .entry)) (now (certificate .exit)) ⌝ }
+{
+    let m = vertex_count(found);
+    let mut v: u8 = 0;
+    while (v as usize) < m {
+        put_pair(
+            table,
+            recorded,
+            found,
+            plan,
+            places,
+            work,
+            certificate,
+            i,
+            v,
+        );
+        v += 1;
+    }
+}
+
+// Stores the records of all subproblems in order.
 pub fn put_records(
     table: &[u8],
     recorded: &[u8],
     found: &[u8],
-    weights: &[i32; 64],
-    rnear: &[[u8; 8]; 64],
-    rlabels: &[[u8; 8]; 64],
-    fnear: &[[u8; 8]; 64],
-    flabels: &[[u8; 8]; 64],
-    order: &[u8; 64],
-    place: &[u8; 64],
-    starts: &[usize; 65],
+    plan: &[[u8; 8]; 512],
+    places: &[[usize; 2]; 65],
     work: &[i32],
     certificate: &mut [u8],
 )
-    requires { ⌜ Ready (now table) (now recorded) (now found) (now weights) (now rnear) (now rlabels) (now fnear) (now flabels) (now order) (now place) (now starts) ⌝ }
+    requires { ⌜ Ready (now table) (now recorded) (now found) (now plan) ⌝ }
+    requires { ⌜ Laid (now recorded) (now found) (now plan) (now places) ⌝ }
     requires { ⌜ Full (now table) (now recorded) (now found) (now work) ⌝ }
     requires { ⌜ certificateLength (now recorded) (now found) ≤ length (now certificate) ⌝ }
-    ensures { λ _. ⌜ RecordsLeft (now (table .entry)) (now (recorded .entry)) (now (found .entry)) (now (work .entry)) (subproblems (now (recorded .entry)) (now (found .entry))) (now (certificate .entry)) (now (certificate .exit)) ⌝ }
+    ensures { λ _. ⌜ RecordsLeft (now (table .entry)) (now (recorded .entry)) (now (found .entry)) (now (work .entry)) 0 (subproblems (now (recorded .entry)) (now (found .entry))) (now (certificate .entry)) (now (certificate .exit)) ⌝ }
 {
-    let sums = square_sums(found, starts);
-    let sizes = record_sizes(recorded, rnear, rlabels, order, place);
-    let begins = row_begins(
-        recorded,
-        found,
-        &sizes,
-        &sums,
-        8 + 3 * vertex_count(recorded),
-    );
-    put_all(
-        table,
-        recorded,
-        found,
-        weights,
-        rnear,
-        rlabels,
-        fnear,
-        flabels,
-        order,
-        place,
-        starts,
-        &begins,
-        &sizes,
-        &sums,
-        work,
-        certificate,
-    );
+    let n = vertex_count(recorded);
+    let mut i = 0;
+    while i < n {
+        put_row(table, recorded, found, plan, places, work, certificate, i);
+        i += 1;
+    }
 }

@@ -21,20 +21,11 @@ loop-holds c = (search needs, c .pre .0, cleared-none _ _)
 mul-g : tie.Need-mul-g Inv-loop μ-loop
 mul-g c = search needs
 
-add-g : tie.Need-add-g Inv-loop μ-loop
-add-g c = search needs
-
 mul-g-2 : tie.Need-mul-g-2 Inv-loop μ-loop
 mul-g-2 c = search needs
 
 element-write-g : tie.Need-element-write-g Inv-loop μ-loop
 element-write-g c = search needs
-
-add-i : tie.Need-add-i Inv-loop μ-loop
-add-i c = search needs
-
-loop-less : tie.Need-loop-less Inv-loop μ-loop
-loop-less c = search needs
 
 loop-again : tie.Need-loop-again Inv-loop μ-loop
 loop-again c =
@@ -54,10 +45,10 @@ clear-spec =
     μ-loop
     loop-holds
     mul-g
-    add-g
+    (λ c. search needs)
     mul-g-2
     element-write-g
-    add-i
-    loop-less
+    (λ c. search needs)
+    (λ c. search needs)
     loop-again
     returns)

@@ -84,12 +84,6 @@ place-of-requires c κs = search needs
 less-of-requires-2 : tie.Need-less-of-requires-2 Inv-loop μ-loop
 less-of-requires-2 c κs = search needs
 
-add-j : tie.Need-add-j Inv-loop μ-loop
-add-j c = search needs
-
-loop-less : tie.Need-loop-less Inv-loop μ-loop
-loop-less c = search needs
-
 loop-again : tie.Need-loop-again Inv-loop μ-loop
 loop-again c =
     let e = c .before .before .before .before .before .before .before .before .before .before .before .before .place .ensures in
@@ -126,7 +120,7 @@ look-spec =
     open-of-requires
     place-of-requires
     less-of-requires-2
-    add-j
-    loop-less
+    (λ c. search needs)
+    (λ c. search needs)
     loop-again
     returns)

@@ -56,12 +56,6 @@ place-of-requires c κs = search needs
 less-of-requires : tie.Need-less-of-requires Inv-loop μ-loop
 less-of-requires c κs = search needs
 
-add-j : tie.Need-add-j Inv-loop μ-loop
-add-j c = search needs
-
-loop-less : tie.Need-loop-less Inv-loop μ-loop
-loop-less c = search needs
-
 loop-again : tie.Need-loop-again Inv-loop μ-loop
 loop-again c =
     (search needs, first-more _ (c .before .before .before .before .before .loop .inv .1) (search needs) refl (c .before .place-of .ensures) (c .less-of .ensures))
@@ -88,7 +82,7 @@ look-first-spec =
     element-write-dist
     place-of-requires
     less-of-requires
-    add-j
-    loop-less
+    (λ c. search needs)
+    (λ c. search needs)
     loop-again
     returns)

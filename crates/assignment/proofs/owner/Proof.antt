@@ -28,12 +28,6 @@ returns : tie.Need-returns Inv-loop μ-loop
 returns c =
     record { has = λ h. sym (c .before .place .ensures) ∙ c .if1 .taken; none = λ h. absurd (omega arith) }
 
-add-i : tie.Need-add-i Inv-loop μ-loop
-add-i c = search needs
-
-loop-less : tie.Need-loop-less Inv-loop μ-loop
-loop-less c = search needs
-
 loop-again : tie.Need-loop-again Inv-loop μ-loop
 loop-again c =
     (search needs, below-more _ _ (c .before .before .before .before .loop .inv .1) (λ q. c .if1 .left (c .before .place .ensures ∙ q)))
@@ -51,7 +45,7 @@ owner-spec =
     element-copy-out-place
     place-requires
     returns
-    add-i
-    loop-less
+    (λ c. search needs)
+    (λ c. search needs)
     loop-again
     returns-2)

@@ -30,12 +30,6 @@ byte-requires c κs = search needs
 array-write-own : tie.Need-array-write-own Inv-loop μ-loop
 array-write-own c = search needs
 
-add-i : tie.Need-add-i Inv-loop μ-loop
-add-i c = search needs
-
-loop-less : tie.Need-loop-less Inv-loop μ-loop
-loop-less c = search needs
-
 loop-again : tie.Need-loop-again Inv-loop μ-loop
 loop-again c =
     let b = c .before .before .before .before .loop .inv in
@@ -58,7 +52,7 @@ owners-spec =
     place-requires
     byte-requires
     array-write-own
-    add-i
-    loop-less
+    (λ c. search needs)
+    (λ c. search needs)
     loop-again
     returns)

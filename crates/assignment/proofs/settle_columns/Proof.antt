@@ -44,12 +44,6 @@ mul-z c = search needs
 element-write-z : tie.Need-element-write-z Inv-loop μ-loop
 element-write-z c = search needs
 
-add-j : tie.Need-add-j Inv-loop μ-loop
-add-j c = search needs
-
-loop-less : tie.Need-loop-less Inv-loop μ-loop
-loop-less c = search needs
-
 loop-again : tie.Need-loop-again Inv-loop μ-loop
 loop-again c =
     (search needs, changed-more (c .before .before .before .before .before .loop .inv .1) (search needs) (c .column-end .ensures))
@@ -72,7 +66,7 @@ settle-columns-spec =
     column-end-requires
     mul-z
     element-write-z
-    add-j
-    loop-less
+    (λ c. search needs)
+    (λ c. search needs)
     loop-again
     returns)

@@ -44,12 +44,6 @@ mul-y c = search needs
 element-write-y : tie.Need-element-write-y Inv-loop μ-loop
 element-write-y c = search needs
 
-add-i : tie.Need-add-i Inv-loop μ-loop
-add-i c = search needs
-
-loop-less : tie.Need-loop-less Inv-loop μ-loop
-loop-less c = search needs
-
 loop-again : tie.Need-loop-again Inv-loop μ-loop
 loop-again c =
     (search needs, changed-more (c .before .before .before .before .before .loop .inv .1) (search needs) (c .row-end .ensures))
@@ -72,7 +66,7 @@ settle-rows-spec =
     row-end-requires
     mul-y
     element-write-y
-    add-i
-    loop-less
+    (λ c. search needs)
+    (λ c. search needs)
     loop-again
     returns)

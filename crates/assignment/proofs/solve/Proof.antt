@@ -26,12 +26,6 @@ search-requires : tie.Need-search-requires Inv-loop μ-loop
 search-requires c κs =
     (c .before .before .before .before .before .before .before .pre .0, c .before .before .before .loop-test .taken, c .before .before .before .before .loop .inv .1, c .before .before .before .before .loop .inv .2, state-pending (c .before .before .before .before .loop .inv .3))
 
-add-r : tie.Need-add-r Inv-loop μ-loop
-add-r c = search needs
-
-loop-less : tie.Need-loop-less Inv-loop μ-loop
-loop-less c = search needs
-
 loop-again : tie.Need-loop-again Inv-loop μ-loop
 loop-again c =
     (search needs, c .search .ensures .sizes, c .search .ensures .bytes, state-next _ (c .before .before .before .before .before .loop .inv .3) (c .search .ensures .joined))
@@ -43,4 +37,4 @@ returns c =
 pub solve-spec : {M : Type 1} → statement M
 solve-spec =
     tie.close
-    (tie.spec Inv-loop μ-loop loop-holds search-requires add-r loop-less loop-again returns)
+    (tie.spec Inv-loop μ-loop loop-holds search-requires (λ c. search needs) (λ c. search needs) loop-again returns)

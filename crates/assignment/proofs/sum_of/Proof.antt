@@ -34,9 +34,6 @@ add-s c =
     let h = s .pre .1 (x .i - 1) (omega (arith, c .before .loop-test .taken)) in
     omega (arith, h, x .inv .2, s .pre .0, c .before .loop-test .taken)
 
-loop-less : tie.Need-loop-less Inv-loop μ-loop
-loop-less c = search needs
-
 loop-again : tie.Need-loop-again Inv-loop μ-loop
 loop-again c =
     let s = c .before .before .before in
@@ -63,6 +60,6 @@ sum-of-spec =
     mul-s
     element-copy-out-s
     add-s
-    loop-less
+    (λ c. search needs)
     loop-again
     returns)

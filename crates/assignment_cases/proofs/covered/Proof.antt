@@ -22,12 +22,6 @@ element-copy-out-row-covered c = search needs
 row-covered-requires : tie.Need-row-covered-requires Inv-loop μ-loop
 row-covered-requires c κs = search needs
 
-add-i : tie.Need-add-i Inv-loop μ-loop
-add-i c = search needs
-
-loop-less : tie.Need-loop-less Inv-loop μ-loop
-loop-less c = search needs
-
 loop-again : tie.Need-loop-again Inv-loop μ-loop
 loop-again c = search needs
 
@@ -44,7 +38,7 @@ covered-spec =
     mul-row-covered
     element-copy-out-row-covered
     row-covered-requires
-    add-i
-    loop-less
+    (λ c. search needs)
+    (λ c. search needs)
     loop-again
     returns)

@@ -25,12 +25,6 @@ array-read-fresh c = search needs
 array-write-used : tie.Need-array-write-used Inv-loop μ-loop
 array-write-used c = search needs
 
-add-i : tie.Need-add-i Inv-loop μ-loop
-add-i c = search needs
-
-loop-less : tie.Need-loop-less Inv-loop μ-loop
-loop-less c = search needs
-
 loop-again : tie.Need-loop-again Inv-loop μ-loop
 loop-again c = search needs
 
@@ -48,7 +42,7 @@ distinct-spec =
     cast-c
     array-read-fresh
     array-write-used
-    add-i
-    loop-less
+    (λ c. search needs)
+    (λ c. search needs)
     loop-again
     returns)

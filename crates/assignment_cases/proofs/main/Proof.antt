@@ -19,12 +19,6 @@ add-report c = search needs
 report-requires : tie.Need-report-requires Inv-loop μ-loop
 report-requires c κs = search needs
 
-add-i : tie.Need-add-i Inv-loop μ-loop
-add-i c = search needs
-
-loop-less : tie.Need-loop-less Inv-loop μ-loop
-loop-less c = search needs
-
 loop-again : tie.Need-loop-again Inv-loop μ-loop
 loop-again c = search needs
 
@@ -40,7 +34,7 @@ main-spec =
     loop-holds
     add-report
     report-requires
-    add-i
-    loop-less
+    (λ c. search needs)
+    (λ c. search needs)
     loop-again
     returns)

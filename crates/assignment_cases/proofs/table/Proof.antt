@@ -28,12 +28,6 @@ mul-g c = search needs
 array-write-g : tie.Need-array-write-g Inv-loop μ-loop
 array-write-g c = search needs
 
-add-i : tie.Need-add-i Inv-loop μ-loop
-add-i c = search needs
-
-loop-less : tie.Need-loop-less Inv-loop μ-loop
-loop-less c = search needs
-
 loop-again : tie.Need-loop-again Inv-loop μ-loop
 loop-again c =
     (search needs, search needs, small-more (c .before .before .before .loop .inv .2) (search needs) (c .gain .ensures))
@@ -52,7 +46,7 @@ table-spec =
     gain-requires
     mul-g
     array-write-g
-    add-i
-    loop-less
+    (λ c. search needs)
+    (λ c. search needs)
     loop-again
     returns)

@@ -37,12 +37,6 @@ part-found-end c = search needs
 match-trees-requires : tie.Need-match-trees-requires
 match-trees-requires c κs = search needs
 
-same-length : tie.Need-same-length
-same-length c = search needs
-
-same-length-2 : tie.Need-same-length-2
-same-length-2 c = search needs
-
 returns : tie.Need-returns
 returns c =
     let at-call = c .before .before .before in
@@ -63,6 +57,6 @@ match-input-spec =
     part-found-start
     part-found-end
     match-trees-requires
-    same-length
-    same-length-2
+    (λ c. search needs)
+    (λ c. search needs)
     returns)

@@ -7,7 +7,7 @@ use Rattle.model.specs.declared.MatchAnswer.{MatchAnswer}
 use Rattle.model.specs.declared.MatchAnswer.the-variants.{Found, Refused}
 use Rattle.model.proofs.MatchAnswer.{the-type}
 use Rattle.model.specs.Match.{refusalOf}
-use Rattle.console.specs.Room.{found-room}
+use Rattle.console.specs.Room.{call-leaves, found-room}
 use borrow.Author.Needs.{needs}
 use Rattle.console.proofs.print_match.Statement.{statement}
 use Rattle.console.proofs.print_match.Tie as tie
@@ -60,23 +60,15 @@ cast-print-number c = search needs
 print-number-requires-2 : tie.Need-print-number-requires-2
 print-number-requires-2 c κs = search needs
 
-same-length : tie.Need-same-length
-same-length c = search needs
-
-same-length-2 : tie.Need-same-length-2
-same-length-2 c = search needs
-
 returns : tie.Need-returns
-returns c = search needs
-
-same-length-3 : tie.Need-same-length-3
-same-length-3 c = search needs
-
-same-length-4 : tie.Need-same-length-4
-same-length-4 c = search needs
+returns c =
+    let m = c .before .before .before .before .before in
+    call-leaves (m .before .before .before .before .before .before .match-input .ensures)
 
 returns-2 : tie.Need-returns-2
-returns-2 c = search needs
+returns-2 c =
+    let m = c .before .before in
+    call-leaves (m .before .before .before .before .before .before .match-input .ensures)
 
 pub print-match-spec : {M : Type 1} → statement M
 print-match-spec =
@@ -93,9 +85,9 @@ print-match-spec =
     slice-aggregate-print-number-2
     cast-print-number
     print-number-requires-2
-    same-length
-    same-length-2
+    (λ c. search needs)
+    (λ c. search needs)
     returns
-    same-length-3
-    same-length-4
+    (λ c. search needs)
+    (λ c. search needs)
     returns-2)

@@ -12,11 +12,8 @@ bits-of-requires c κs = search needs
 put-word-requires : tie.Need-put-word-requires
 put-word-requires c κs = search needs
 
-same-length : tie.Need-same-length
-same-length c = search needs
-
 returns : tie.Need-returns
 returns c = c .before .before .put-word .ensures ∙ ap (putWord _ _) (c .before .before .before .bits-of .ensures ∙ ap bits32 (toZ-ofZ (c .before .before .before .before .before .before .fits .w)))
 
 pub encode-spec : {M : Type 1} → statement M
-encode-spec = tie.close (tie.spec bits-of-requires put-word-requires same-length returns)
+encode-spec = tie.close (tie.spec bits-of-requires put-word-requires (λ c. search needs) returns)

@@ -15,9 +15,6 @@ slice-write-d c = search needs
 cast-d-2 : tie.Need-cast-d-2
 cast-d-2 c = search needs
 
-add-d : tie.Need-add-d
-add-d c = search needs
-
 slice-write-d-2 : tie.Need-slice-write-d-2
 slice-write-d-2 c = simp length-set (omega arith)
 
@@ -39,9 +36,6 @@ add-d-3 c = search needs
 slice-write-d-4 : tie.Need-slice-write-d-4
 slice-write-d-4 c = simp length-set (omega arith)
 
-same-length : tie.Need-same-length
-same-length c = search needs
-
 returns : tie.Need-returns
 unfolding putWord
 returns c = search needs
@@ -53,7 +47,7 @@ put-word-spec =
     cast-d
     slice-write-d
     cast-d-2
-    add-d
+    (λ c. search needs)
     slice-write-d-2
     cast-d-3
     add-d-2
@@ -61,5 +55,5 @@ put-word-spec =
     cast-d-4
     add-d-3
     slice-write-d-4
-    same-length
+    (λ c. search needs)
     returns)

@@ -1,11 +1,10 @@
 -- `record_ok` multiplies only counts that are in their range. Assumes nothing.
 use mathlib.Core.Bool.{true, false, not, _&&_}
 use mathlib.Core.Path.{_≡_, sym}
-use native.Mathlib.Omega.{arith}
 use borrow.Author.Needs.{needs}
 use Rattle.foundations.specs.Tests.{not-says, passed}
 use Rattle.model.specs.Jobs.{countOk}
-use Rattle.job_items.specs.Items.{record-fails, record-is, record-small, product-fits}
+use Rattle.job_items.specs.Items.{record-fails, record-is, record-counts}
 use Rattle.job_items.proofs.record_ok.Statement.{statement}
 use Rattle.job_items.proofs.record_ok.Tie as tie
 
@@ -31,19 +30,20 @@ returns c =
     let h : (not (j .idle) && (k .count-ok .result && c .before .before .count-ok2 .result)) ≡ false = not-says _ (c .if1 .taken) in
     sym (record-fails j (rw (k .count-ok .ensures, c .before .before .count-ok2 .ensures) at h))
 
-mul-result : tie.Need-mul-result
-mul-result c = let q = record-small (c .before .before .before .before .before .args .job) (fine (c .before)) in omega (arith, q .1)
+cast-result : tie.Need-cast-result
+cast-result c = search needs
 
-sub-result : tie.Need-sub-result
-sub-result c = let q = record-small (c .before .before .before .before .before .args .job) (fine (c .before)) in omega (arith, q .0)
+cast-product : tie.Need-cast-product
+cast-product c = search needs
 
-mul-result-2 : tie.Need-mul-result-2
-mul-result-2 c =
-    let q = record-small (c .before .before .before .before .before .before .args .job) (fine (c .before .before)) in
-    record { fits = product-fits _ _ (q .2) (omega (arith, q .1)) }
+cast-product-2 : tie.Need-cast-product-2
+cast-product-2 c = search needs
+
+product-requires : tie.Need-product-requires
+product-requires c κs = let e = c .before .before .before in record-counts (e .before .before .before .before .args .job) (fine e)
 
 returns-2 : tie.Need-returns-2
-returns-2 c = sym (record-is (c .before .before .before .before .before .before .before .args .job) (fine (c .before .before .before)))
+returns-2 c = let e = c .before .before .before .before in rw (c .product .ensures .0) (sym (record-is (e .before .before .before .before .args .job) (fine e)))
 
 pub record-ok-spec : {M : Type 1} → statement M
 record-ok-spec =
@@ -52,7 +52,8 @@ record-ok-spec =
     count-ok-requires
     count-ok-requires-2
     returns
-    mul-result
-    sub-result
-    mul-result-2
+    cast-result
+    cast-product
+    cast-product-2
+    product-requires
     returns-2)

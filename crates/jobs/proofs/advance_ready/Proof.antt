@@ -1,9 +1,8 @@
 -- `advance_ready` tests the work numbers before the position, and then fills from there. Assumes nothing.
 use mathlib.Core.Path.{sym, _∙_}
 use Rattle.foundations.specs.Tests.{not-says, passed}
-use Rattle.one_call.specs.Assemble.{recorded-sound, found-sound}
+use Rattle.plan.specs.Numbers.{ready-sound, ready-recorded}
 use Rattle.job_items.specs.Items.{early-passed, advance-work, advance-none}
-use Rattle.job_items.specs.Work.{ready-scanned}
 use Rattle.jobs.specs.Outcomes.{advance-refused-as, advance-accepted-as}
 use native.Mathlib.Omega.{arith}
 use borrow.Author.Needs.{needs}
@@ -18,10 +17,7 @@ work-ok-requires c κs =
     let s = c .before .before .before .before in
     let a = s .args in
     let e = early-passed (a .table .now) (a .recorded .now) (a .found .now) (a .work .now) (a .job) (s .pre .1) in
-    (ready-scanned (s .pre .0), (record { enough = e .1 }, e .4))
-
-same-length : tie.Need-same-length
-same-length c = search needs
+    (s .pre .0, (record { enough = e .1 }, e .4))
 
 returns : tie.Need-returns
 returns c =
@@ -34,7 +30,7 @@ slice-of-requires c κs =
     let s = c .before .before .before .before .before .before in
     let a = s .args in
     let e = early-passed (a .table .now) (a .recorded .now) (a .found .now) (a .work .now) (a .job) (s .pre .1) in
-    (recorded-sound _ _ _ (e .0), (found-sound _ _ _ (e .0), e .4))
+    (ready-recorded (s .pre .0), (ready-sound (s .pre .0), e .4))
 
 cast-fill : tie.Need-cast-fill
 cast-fill c = search needs
@@ -54,9 +50,6 @@ fill-requires c κs =
 moved-requires : tie.Need-moved-requires
 moved-requires c κs = c .before .before .before .slice-of .ensures .1
 
-same-length-2 : tie.Need-same-length-2
-same-length-2 c = search needs
-
 returns-2 : tie.Need-returns-2
 returns-2 c =
     let s = c .before .before .before .before .before .before .before .before .before .before .before in
@@ -70,12 +63,12 @@ advance-ready-spec =
     (tie.spec
     cast-work-ok
     work-ok-requires
-    same-length
+    (λ c. search needs)
     returns
     slice-of-requires
     cast-fill
     cast-fill-2
     fill-requires
     moved-requires
-    same-length-2
+    (λ c. search needs)
     returns-2)

@@ -1,10 +1,9 @@
--- `finish` refuses by the first of the items 1 to 15 that applies, or reads what it needs and goes on. Assumes nothing.
+-- `finish` refuses by the first of the items 1 to 15 that applies, or makes the plan and goes on. Assumes nothing.
 use mathlib.Core.Path.{_≡_, refl, sym, ap, _∙_}
 use Rattle.model.specs.declared.MatchAnswer.the-variants.{Refused}
 use Rattle.model.specs.Calls.{inputItem}
-use Rattle.formats.specs.Inputs.{input-accepted}
-use Rattle.one_call.specs.Answers.{refused-number}
-use Rattle.one_call.specs.Assemble.{found-sound, order-different, ready}
+use Rattle.one_call.specs.Answers.{refused-number, refused-weight}
+use Rattle.one_call.specs.Assemble.{recorded-sound, found-sound}
 use Rattle.job_items.specs.Items.{earlyItem, early-passed, finish-early}
 use borrow.Author.Needs.{needs}
 use Rattle.jobs.proofs.finish.Statement.{statement}
@@ -25,39 +24,15 @@ returns c =
     let a = c .before .before .before .before .before .before .args in
     let e = c .before .early-item .ensures in
     let q = e ∙ sym (finish-early (a .table .now) (a .recorded .now) (a .found .now) (a .work .now) (a .job) (a .mapping .now) (λ z. c .if1 .taken (e ∙ z))) in
-    record { refused = λ n. record { given = ap Refused q; number = refused-number (ap Refused q); work-kept = refl; mapping-kept = refl }; finished = λ z. absurd (c .if1 .taken (q ∙ z)) }
+    record { refused = λ n. record { given = ap Refused q; number = refused-number (ap Refused q); weighs = refused-weight (ap Refused q); work-kept = refl; mapping-kept = refl }; finished = λ z. absurd (c .if1 .taken (q ∙ z)) }
 
-edge-weights-requires : tie.Need-edge-weights-requires
-edge-weights-requires c κs = input-accepted _ _ _ (passing c) .weights .sized
-
-neighbour-table-requires : tie.Need-neighbour-table-requires
-neighbour-table-requires c κs = input-accepted _ _ _ (passing (c .before)) .recorded .ends
-
-edge-label-table-requires : tie.Need-edge-label-table-requires
-edge-label-table-requires c κs = (input-accepted _ _ _ (passing (c .before .before .before)) .recorded .ends, c .before .neighbour-table .ensures)
-
-neighbour-table-requires-2 : tie.Need-neighbour-table-requires-2
-neighbour-table-requires-2 c κs = input-accepted _ _ _ (passing (c .before .before .before .before)) .found .ends
-
-edge-label-table-requires-2 : tie.Need-edge-label-table-requires-2
-edge-label-table-requires-2 c κs = (input-accepted _ _ _ (passing (c .before .before .before .before .before .before)) .found .ends, c .before .neighbour-table2 .ensures)
-
-postorder-requires : tie.Need-postorder-requires
-postorder-requires c κs = search needs
-
-places-requires : tie.Need-places-requires
-places-requires c κs = order-different _ _ _ (passing (c .before .before .before .before .before .before .before .before .before .before)) _ _ _ (c .before .before .before .before .before .before .before .before .neighbour-table .ensures) (c .before .postorder .ensures)
-
-starts-requires : tie.Need-starts-requires
-starts-requires c κs = (found-sound _ _ _ (passing (c .before .before .before .before .before .before .before .before .before .before .before .before)), c .before .before .before .before .before .before .before .neighbour-table2 .ensures)
+make-requires : tie.Need-make-requires
+make-requires c κs = (recorded-sound _ _ _ (passing c), found-sound _ _ _ (passing c))
 
 finish-ready-requires : tie.Need-finish-ready-requires
 finish-ready-requires c κs =
-    let e = c .before .before .before .before .before .before .before .before .before .before .before .before .before .before .before .before .before .before .before .before .before .before in
-    (ready _ _ _ (passing e) _ _ _ _ _ _ _ _ _ (c .before .before .before .before .before .before .before .before .before .before .before .before .before .before .before .before .before .before .before .before .before .edge-weights .ensures) (c .before .before .before .before .before .before .before .before .before .before .before .before .before .before .before .before .before .before .before .before .neighbour-table .ensures) (c .before .before .before .before .before .before .before .before .before .before .before .before .before .before .before .before .before .before .edge-label-table .ensures) (c .before .before .before .before .before .before .before .before .before .before .before .before .before .before .before .before .before .neighbour-table2 .ensures) (c .before .before .before .before .before .before .before .before .before .before .before .before .before .before .before .edge-label-table2 .ensures) (c .before .before .before .before .before .before .before .before .before .before .before .before .before .postorder .ensures) (c .before .before .before .before .before .before .before .before .before .before .before .places .ensures) (c .before .before .before .before .before .before .before .before .before .starts .ensures), zero e)
-
-same-length : tie.Need-same-length
-same-length c = search needs
+    let m = c .before .before in
+    (record { passes = passing (m .before); planned = m .make .ensures }, zero (m .before))
 
 returns-2 : tie.Need-returns-2
 returns-2 c = c .before .before .finish-ready .ensures
@@ -68,14 +43,7 @@ finish-spec =
     (tie.spec
     early-item-requires
     returns
-    edge-weights-requires
-    neighbour-table-requires
-    edge-label-table-requires
-    neighbour-table-requires-2
-    edge-label-table-requires-2
-    postorder-requires
-    places-requires
-    starts-requires
+    make-requires
     finish-ready-requires
-    same-length
+    (λ c. search needs)
     returns-2)

@@ -4,10 +4,8 @@ use lib.IntN.{ℤ}
 use Rattle.foundations.specs.Machine.{back}
 use Rattle.model.specs.declared.MatchAnswer.the-variants.{Found, Refused}
 use Rattle.model.specs.Jobs.{finishItem}
-use Rattle.solver.specs.Plan.{ready-known}
-use Rattle.one_call.specs.Answers.{refused-number}
+use Rattle.one_call.specs.Answers.{refused-number, refused-weight}
 use Rattle.job_items.specs.Items.{early-passed, finish-passed}
-use Rattle.job_items.specs.Work.{ready-scanned}
 use Rattle.jobs.specs.Fits.{finish-fits}
 use Rattle.jobs.specs.Delivery.{delivered-finished}
 use borrow.Author.Needs.{needs}
@@ -19,17 +17,12 @@ zero : (c : tie.Else1) → let a = c .before .before .before .before .before .be
 zero c = let z : c .before .late-item .result ≡ 0 = search needs in sym (c .before .late-item .ensures) ∙ z
 
 late-item-requires : tie.Need-late-item-requires
-late-item-requires c κs =
-    let s = c .before .before .before .before .before in
-    (ready-scanned (s .pre .0), s .pre .1)
-
-same-length : tie.Need-same-length
-same-length c = search needs
+late-item-requires c κs = c .before .before .before .before .before .pre
 
 returns : tie.Need-returns
 returns c =
     let e = c .before .late-item .ensures in
-    record { refused = λ n. record { given = ap Refused e; number = refused-number (ap Refused e); work-kept = refl; mapping-kept = refl }; finished = λ z. absurd (c .if1 .taken (e ∙ z)) }
+    record { refused = λ n. record { given = ap Refused e; number = refused-number (ap Refused e); weighs = refused-weight (ap Refused e); work-kept = refl; mapping-kept = refl }; finished = λ z. absurd (c .if1 .taken (e ∙ z)) }
 
 deliver-requires : tie.Need-deliver-requires
 deliver-requires c κs =
@@ -37,10 +30,7 @@ deliver-requires c κs =
     let a = s .args in
     let e = early-passed (a .table .now) (a .recorded .now) (a .found .now) (a .work .now) (a .job) (s .pre .1) in
     let z = zero (c .before) in
-    (ready-known (s .pre .0), (record { enough = e .1 }, (finish-fits (a .table .now) (a .recorded .now) (a .found .now) (a .work .now) (a .job) (a .mapping .now) z, finish-passed (a .table .now) (a .recorded .now) (a .found .now) (a .work .now) (a .job) (a .mapping .now) z .2)))
-
-same-length-2 : tie.Need-same-length-2
-same-length-2 c = search needs
+    (s .pre .0, (record { enough = e .1 }, (finish-fits (a .table .now) (a .recorded .now) (a .found .now) (a .work .now) (a .job) (a .mapping .now) z, finish-passed (a .table .now) (a .recorded .now) (a .found .now) (a .work .now) (a .job) (a .mapping .now) z .2)))
 
 returns-2 : tie.Need-returns-2
 returns-2 c =
@@ -54,4 +44,4 @@ returns-2 c =
 pub finish-ready-spec : {M : Type 1} → statement M
 finish-ready-spec =
     tie.close
-    (tie.spec late-item-requires same-length returns deliver-requires same-length-2 returns-2)
+    (tie.spec late-item-requires (λ c. search needs) returns deliver-requires (λ c. search needs) returns-2)

@@ -1,10 +1,8 @@
 -- `late_item` tests the work numbers, what is left, and the room for the mapping. Assumes nothing.
 use mathlib.Core.Path.{sym, _∙_}
-use mathlib.Core.List.{List}
-use Prim.Native.Nat.{ℕ}
 use Rattle.foundations.specs.Tests.{not-says, passed}
 use Rattle.trees.specs.Accepted.{whole}
-use Rattle.formats.specs.Inputs.{input-accepted}
+use Rattle.plan.specs.Numbers.{ready-accepted, ready-sound, ready-recorded}
 use Rattle.job_items.specs.Items.{early-passed, finish-work, finish-left, finish-mapping, finish-none}
 use native.Mathlib.Omega.{arith}
 use borrow.Author.Needs.{needs}
@@ -28,7 +26,9 @@ returns c =
     sym (finish-work (a .table .now) (a .recorded .now) (a .found .now) (a .work .now) (a .job) (a .mapping .now) (s .pre .1) (sym (c .before .work-ok .ensures) ∙ not-says _ (c .if1 .taken)))
 
 is-left-requires : tie.Need-is-left-requires
-is-left-requires c κs = search needs
+is-left-requires c κs =
+    let s = c .before .before .before .before .before .before .before in
+    (ready-recorded (s .pre .0), ready-sound (s .pre .0))
 
 returns-2 : tie.Need-returns-2
 returns-2 c =
@@ -39,7 +39,7 @@ returns-2 c =
 vertex-count-requires : tie.Need-vertex-count-requires
 vertex-count-requires c κs =
     let s = c .before .before .before .before .before .before .before .before .before in
-    whole (input-accepted _ _ _ (s .pre .0 .passes) .recorded .ends)
+    whole (ready-accepted (s .pre .0) .recorded .ends)
 
 returns-3 : tie.Need-returns-3
 returns-3 c =

@@ -13,12 +13,9 @@ cast-put-number c = search needs
 put-number-requires : tie.Need-put-number-requires
 put-number-requires c κs = search needs
 
-same-length : tie.Need-same-length
-same-length c = search needs
-
 returns : tie.Need-returns
 returns c =
     number-as (toZ-pos w32 (omega arith)) (c .before .before .put-number .ensures)
 
 pub put-dual-spec : {M : Type 1} → statement M
-put-dual-spec = tie.close (tie.spec cast-put-number put-number-requires same-length returns)
+put-dual-spec = tie.close (tie.spec cast-put-number put-number-requires (λ c. search needs) returns)

@@ -15,14 +15,8 @@ slice-write-d c = search needs
 element-copy-out-d-2 : tie.Need-element-copy-out-d-2
 element-copy-out-d-2 c = search needs
 
-add-d : tie.Need-add-d
-add-d c = search needs
-
 slice-write-d-2 : tie.Need-slice-write-d-2
 slice-write-d-2 c = simp length-set (omega arith)
-
-same-length : tie.Need-same-length
-same-length c = search needs
 
 returns : tie.Need-returns
 returns c =
@@ -36,7 +30,7 @@ put-mark-spec =
     element-copy-out-d
     slice-write-d
     element-copy-out-d-2
-    add-d
+    (λ c. search needs)
     slice-write-d-2
-    same-length
+    (λ c. search needs)
     returns)

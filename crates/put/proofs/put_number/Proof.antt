@@ -11,9 +11,6 @@ use Rattle.put.proofs.put_number.Tie as tie
 encode-requires : tie.Need-encode-requires
 encode-requires c κs = search needs
 
-same-length : tie.Need-same-length
-same-length c = search needs
-
 returns : tie.Need-returns
 returns c =
     let s = c .before .before .before .before .before in
@@ -21,4 +18,4 @@ returns c =
     number-put (s .args .at) (s .args .w) (s .args .d .now) _ (s .pre) (s .fits .w) (e ∙ ap (λ (y : ℤ). putInt32 (s .args .d .now) (s .args .at) y) (toZ-ofZ (s .fits .w)))
 
 pub put-number-spec : {M : Type 1} → statement M
-put-number-spec = tie.close (tie.spec encode-requires same-length returns)
+put-number-spec = tie.close (tie.spec encode-requires (λ c. search needs) returns)

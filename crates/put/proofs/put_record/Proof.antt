@@ -32,9 +32,6 @@ add-put-row-3 c = search needs
 put-row-requires-2 : tie.Need-put-row-requires-2
 put-row-requires-2 c κs = search needs
 
-same-length : tie.Need-same-length
-same-length c = search needs
-
 returns : tie.Need-returns
 returns c = record-put (c .before .before .before .before .before .before .before .before .before .before .before .before .before .before .put-mark .ensures) (number-as (toZ-ofZ (c .before .before .before .before .before .before .before .before .before .before .before .before .before .before .before .before .before .before .fits .w)) (c .before .before .before .before .before .before .before .before .before .before .put-number .ensures)) (c .before .before .before .before .before .before .put-row .ensures) (c .before .before .put-row2 .ensures)
 
@@ -51,5 +48,5 @@ put-record-spec =
     mul-put-row
     add-put-row-3
     put-row-requires-2
-    same-length
+    (λ c. search needs)
     returns)

@@ -1,7 +1,7 @@
 -- `others_before` meets its contract. Assumes nothing.
-use Rattle.records.specs.Places.{before-small}
-use Rattle.certificate.specs.Places.{before-none, before-some}
 use mathlib.Core.Path.{sym}
+use Rattle.certificate.specs.Places.{before-none, before-some}
+use Rattle.records.specs.Places.{before-small}
 use native.Mathlib.Omega.{arith}
 use borrow.Author.Needs.{needs}
 use Rattle.records.proofs.others_before.Statement.{statement}

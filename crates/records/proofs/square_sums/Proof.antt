@@ -1,61 +1,66 @@
 -- `square_sums` meets its contract. Assumes nothing.
-use Rattle.records.specs.Places.{SumsTo, sums-none, sums-next, sums-more, sound-whole}
-use Rattle.solver.specs.PlanLaws.{zeros}
-use Rattle.model.specs.Tree.{count}
 use Prim.Native.Nat.{_≤_, _-_}
 use mathlib.Core.Path.{_≡_, refl}
+use Rattle.model.specs.Certificate.{squares}
+use Rattle.model.specs.Limits.{vertexLimit}
+use Rattle.model.specs.Tree.{count}
+use Rattle.trees.specs.Accepted.{whole}
+use Rattle.records.specs.Places.{SquaresTo, inputs-found, inputs-few, squares-first, squares-none, squares-next, squares-more}
 use borrow.Author.Needs.{needs}
 use native.Mathlib.Omega.{arith}
 use Rattle.records.proofs.square_sums.Statement.{statement}
 use Rattle.records.proofs.square_sums.Tie as tie
 
 abbrev Inv-loop : tie.InvT-loop
-Inv-loop found starts n s₀ v₀ s v = (v ≤ n) × (n ≡ count found) × SumsTo found v s
+Inv-loop recorded found plan m p₀ sum₀ v₀ p sum v = (v ≤ m) × (m ≡ count found) × (m ≤ vertexLimit) × (sum ≡ squares found v) × SquaresTo found v p
 
 abbrev μ-loop : tie.MeasureT-loop
-μ-loop found starts n s₀ v₀ s v = n - v
+μ-loop recorded found plan m p₀ sum₀ v₀ p sum v = m - v
 
 vertex-count-requires : tie.Need-vertex-count-requires Inv-loop μ-loop
-vertex-count-requires c κs = sound-whole (c .before .pre .0)
+vertex-count-requires c κs = whole (inputs-found (c .before .before .pre) .passed .ends)
 
 loop-holds : tie.Need-loop-holds Inv-loop μ-loop
-loop-holds c = (omega arith, search needs, sums-none _ _ refl (zeros 65 0))
+loop-holds c =
+    let p = c .before .before .before .pre in
+    let e = c .vertex-count .ensures in
+    (omega arith, e, omega (arith, e, inputs-few p .1), squares-first _, squares-none _ _ refl refl)
 
-degree-of-requires : tie.Need-degree-of-requires Inv-loop μ-loop
-degree-of-requires c κs = let l = c .before in let p = l .before .before .before .pre in (p .0, (p .1, omega (arith, l .loop .inv .1)))
+cast-degree : tie.Need-cast-degree Inv-loop μ-loop
+cast-degree c = search needs
 
-mul-s : tie.Need-mul-s Inv-loop μ-loop
-mul-s c = search needs
+degree-requires : tie.Need-degree-requires Inv-loop μ-loop
+degree-requires c κs = search needs
 
-array-read-s : tie.Need-array-read-s Inv-loop μ-loop
-array-read-s c = search needs
+mul-sum : tie.Need-mul-sum Inv-loop μ-loop
+mul-sum c =
+    let l = c .before .before in
+    let p = l .before .before .before .before .pre in
+    let h = squares-next p _ _ _ (omega (arith, l .loop .inv .1)) (c .degree .ensures) (l .loop .inv .3) in
+    omega (arith, h .0, h .1)
 
-mul-s-2 : tie.Need-mul-s-2 Inv-loop μ-loop
-mul-s-2 c = let l = c .before .before in let p = l .before .before .before .pre in let h = sums-next (p .0) _ _ (omega (arith, l .loop .inv .1)) (l .loop .inv .2) (c .degree-of .ensures .0) in omega arith
+add-sum : tie.Need-add-sum Inv-loop μ-loop
+add-sum c =
+    let l = c .before .before in
+    let p = l .before .before .before .before .pre in
+    let h = squares-next p _ _ _ (omega (arith, l .loop .inv .1)) (c .degree .ensures) (l .loop .inv .3) in
+    omega (arith, h .0, h .1)
 
-add-s : tie.Need-add-s Inv-loop μ-loop
-add-s c = let l = c .before .before in let p = l .before .before .before .pre in let h = sums-next (p .0) _ _ (omega (arith, l .loop .inv .1)) (l .loop .inv .2) (c .degree-of .ensures .0) in omega arith
+mul-p : tie.Need-mul-p Inv-loop μ-loop
+mul-p c = search needs
 
-add-s-2 : tie.Need-add-s-2 Inv-loop μ-loop
-add-s-2 c = search needs
-
-mul-s-3 : tie.Need-mul-s-3 Inv-loop μ-loop
-mul-s-3 c = search needs
-
-array-write-s : tie.Need-array-write-s Inv-loop μ-loop
-array-write-s c = search needs
-
-add-v : tie.Need-add-v Inv-loop μ-loop
-add-v c = search needs
-
-loop-less : tie.Need-loop-less Inv-loop μ-loop
-loop-less c = search needs
+array-set-from-p : tie.Need-array-set-from-p Inv-loop μ-loop
+array-set-from-p c = search needs
 
 loop-again : tie.Need-loop-again Inv-loop μ-loop
-loop-again c = let l = c .before .before in let p = l .before .before .before .pre in (omega arith, l .loop .inv .1, sums-more (p .0) _ _ _ (omega (arith, l .loop .inv .1)) (l .loop .inv .2) (c .degree-of .ensures .0) refl)
+loop-again c =
+    let l = c .before .before in
+    let p = l .before .before .before .before .pre in
+    let h = squares-next p _ _ _ (omega (arith, l .loop .inv .1)) (c .degree .ensures) (l .loop .inv .3) in
+    (omega arith, l .loop .inv .1, l .loop .inv .2, h .0, squares-more p _ _ (omega (arith, l .loop .inv .1)) (l .loop .inv .4) (h .0))
 
 returns : tie.Need-returns Inv-loop μ-loop
-returns c = let l = c .before in let e : l .loop .v ≡ l .before .vertex-count .result = omega arith in rw (e, l .loop .inv .1) at (l .loop .inv .2)
+returns c = let l = c .before in let e : l .loop .v ≡ l .before .vertex-count .result = omega arith in rw (e, l .loop .inv .1) at (l .loop .inv .4)
 
 pub square-sums-spec : {M : Type 1} → statement M
 square-sums-spec =
@@ -65,15 +70,14 @@ square-sums-spec =
     μ-loop
     vertex-count-requires
     loop-holds
-    degree-of-requires
-    mul-s
-    array-read-s
-    mul-s-2
-    add-s
-    add-s-2
-    mul-s-3
-    array-write-s
-    add-v
-    loop-less
+    cast-degree
+    degree-requires
+    mul-sum
+    add-sum
+    (λ c. search needs)
+    mul-p
+    array-set-from-p
+    (λ c. search needs)
+    (λ c. search needs)
     loop-again
     returns)

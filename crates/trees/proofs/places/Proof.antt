@@ -32,12 +32,6 @@ cast-p-2 c = omega (arith, low c)
 array-write-p : tie.Need-array-write-p Inv-loop μ-loop
 array-write-p c = low c
 
-add-i : tie.Need-add-i Inv-loop μ-loop
-add-i c = search needs
-
-loop-less : tie.Need-loop-less Inv-loop μ-loop
-loop-less c = search needs
-
 loop-again : tie.Need-loop-again Inv-loop μ-loop
 loop-again c = (omega arith, placed-more _ _ (c .before .loop .i) _ (c .before .before .before .pre) (c .loop-test .taken) (c .before .loop .inv .1))
 
@@ -58,7 +52,7 @@ places-spec =
     cast-p
     cast-p-2
     array-write-p
-    add-i
-    loop-less
+    (λ c. search needs)
+    (λ c. search needs)
     loop-again
     returns)

@@ -10,11 +10,8 @@ returns c l h = holds-full 64 255 l _ _ _ h (c .if1 .taken)
 element-write-r : tie.Need-element-write-r
 element-write-r c = search needs
 
-add-r : tie.Need-add-r
-add-r c = search needs
-
 returns-2 : tie.Need-returns-2
 returns-2 c l h = holds-more 64 255 l _ _ _ h (c .if1 .left)
 
 pub push-spec : {M : Type 1} → statement M
-push-spec = tie.close (tie.spec returns element-write-r add-r returns-2)
+push-spec = tie.close (tie.spec returns element-write-r (λ c. search needs) returns-2)

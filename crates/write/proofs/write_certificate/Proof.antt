@@ -1,88 +1,96 @@
--- `write_certificate` refuses by the first item that applies and changes nothing, or reads what it needs, solves and writes. Assumes nothing.
+-- `write_certificate` refuses by the first item that applies and changes nothing, or makes the plan, solves and writes. Assumes nothing.
 use mathlib.Core.Path.{_≡_, refl, sym, ap, _∙_}
 use Prim.Native.Nat.{_≤_}
-use borrow.Author.Needs.{needs}
 use lib.ListN.{length}
 use Rattle.model.specs.declared.WriteAnswer.the-variants.{Written, Refused}
 use Rattle.model.specs.Order.{subproblems}
 use Rattle.model.specs.Calls.{inputItem}
 use Rattle.model.specs.Certificate.{certificateLength}
-use Rattle.model.specs.Writing.{writeItem}
-use Rattle.formats.specs.Inputs.{input-accepted}
+use Rattle.model.specs.Jobs.{startItem}
+use Rattle.trees.specs.Accepted.{whole}
+use Rattle.plan.specs.Plan.{Ready}
+use Rattle.plan.specs.Numbers.{ready-recorded}
+use Rattle.records.specs.Places.{ready-inputs, inputs-few, inputs-length, places-end}
+use Rattle.job_items.specs.Items.{start-passed}
+use Rattle.one_call.specs.Assemble.{recorded-sound, found-sound}
 use Rattle.write.specs.Theorems.{refused-number, refused-length, written-number, written-length}
-use Rattle.write.specs.Items.{write-passed}
-use Rattle.one_call.specs.Assemble.{found-sound, order-different, ready}
+use Rattle.write.specs.Items.{write-start, write-room, write-none}
+use native.Mathlib.Omega.{arith}
+use borrow.Author.Needs.{needs}
 use Rattle.write.proofs.write_certificate.Statement.{statement}
 use Rattle.write.proofs.write_certificate.Tie as tie
 
--- no item applies
-zero : (c : tie.Else1) → let a = c .before .before .before .before .before .before .before .before .args in writeItem (a .table .now) (a .recorded .now) (a .found .now) (a .work .now) (a .certificate .now) ≡ 0
-zero c = let z : c .before .write-item .result ≡ 0 = search needs in sym (c .before .write-item .ensures) ∙ z
+-- none of the items 1 to 13 applies
+zero : (c : tie.Else1) → let a = c .before .before .before .before .before .before .before .args in startItem (a .table .now) (a .recorded .now) (a .found .now) (a .work .now) ≡ 0
+zero c = let z : c .before .start-item .result ≡ 0 = search needs in sym (c .before .start-item .ensures) ∙ z
 
-passed : (c : tie.Else1) → let a = c .before .before .before .before .before .before .before .before .args in
-    (inputItem (a .table .now) (a .recorded .now) (a .found .now) ≡ 0) × (subproblems (a .recorded .now) (a .found .now) ≤ length (a .work .now)) × (certificateLength (a .recorded .now) (a .found .now) ≤ length (a .certificate .now))
-passed c = let a = c .before .before .before .before .before .before .before .before .args in write-passed (a .table .now) (a .recorded .now) (a .found .now) (a .work .now) (a .certificate .now) (zero c)
+passed : (c : tie.Else1) → let a = c .before .before .before .before .before .before .before .args in (inputItem (a .table .now) (a .recorded .now) (a .found .now) ≡ 0) × (subproblems (a .recorded .now) (a .found .now) ≤ length (a .work .now))
+passed c = let a = c .before .before .before .before .before .before .before .args in start-passed (a .table .now) (a .recorded .now) (a .found .now) (a .work .now) (zero c)
 
-write-item-requires : tie.Need-write-item-requires
-write-item-requires c κs = search needs
+ready : (c : tie.After-make) → let a = c .before .before .before .before .before .before .before .before .args in Ready (a .table .now) (a .recorded .now) (a .found .now) (c .make .result)
+ready c = record { passes = passed (c .before) .0; planned = c .make .ensures }
 
-same-length : tie.Need-same-length
-same-length c = search needs
+long : (c : tie.After-begin) → let a = c .before .before .before .before .before .before .before .before .before .before .before .before .before .args in c .begin .result ≡ certificateLength (a .recorded .now) (a .found .now)
+long c = rw (c .before .vertex-count .ensures) at (c .begin .ensures) ∙ places-end (ready-inputs (ready (c .before .before .before .before .before))) (c .before .before .before .places-of .ensures .at)
 
-same-length-2 : tie.Need-same-length-2
-same-length-2 c = search needs
+start-item-requires : tie.Need-start-item-requires
+start-item-requires c κs = search needs
 
 returns : tie.Need-returns
 returns c =
-    let e = c .before .write-item .ensures in
-    let g = ap Refused e in
-    record { refused = λ n. record { given = g; number = refused-number g; measures = refused-length g; work-kept = refl; certificate-kept = refl }; written = λ z. absurd (c .if1 .taken (e ∙ z)) }
+    let a = c .before .before .before .before .before .before .before .args in
+    let e = c .before .start-item .ensures in
+    let w = write-start (a .table .now) (a .recorded .now) (a .found .now) (a .work .now) (a .certificate .now) (λ z. c .if1 .taken (e ∙ z)) in
+    let g = ap Refused (e ∙ sym w) in
+    record {
+      refused = λ n. record { given = g; number = refused-number g; measures = refused-length g; work-kept = refl; certificate-kept = refl };
+      written = λ z. absurd (c .if1 .taken (e ∙ sym w ∙ z));
+    }
 
-edge-weights-requires : tie.Need-edge-weights-requires
-edge-weights-requires c κs = input-accepted _ _ _ (passed c .0) .weights .sized
+make-requires : tie.Need-make-requires
+make-requires c κs = (recorded-sound _ _ _ (passed c .0), found-sound _ _ _ (passed c .0))
 
-neighbour-table-requires : tie.Need-neighbour-table-requires
-neighbour-table-requires c κs = input-accepted _ _ _ (passed (c .before) .0) .recorded .ends
+places-of-requires : tie.Need-places-of-requires
+places-of-requires c κs = ready-inputs (ready (c .before))
 
-edge-label-table-requires : tie.Need-edge-label-table-requires
-edge-label-table-requires c κs = (input-accepted _ _ _ (passed (c .before .before .before) .0) .recorded .ends, c .before .neighbour-table .ensures)
+vertex-count-requires : tie.Need-vertex-count-requires
+vertex-count-requires c κs = whole (ready-recorded (ready (c .before .before .before)) .passed .ends)
 
-neighbour-table-requires-2 : tie.Need-neighbour-table-requires-2
-neighbour-table-requires-2 c κs = input-accepted _ _ _ (passed (c .before .before .before .before) .0) .found .ends
-
-edge-label-table-requires-2 : tie.Need-edge-label-table-requires-2
-edge-label-table-requires-2 c κs = (input-accepted _ _ _ (passed (c .before .before .before .before .before .before) .0) .found .ends, c .before .neighbour-table2 .ensures)
-
-postorder-requires : tie.Need-postorder-requires
-postorder-requires c κs = search needs
-
-places-requires : tie.Need-places-requires
-places-requires c κs = order-different _ _ _ (passed (c .before .before .before .before .before .before .before .before .before .before) .0) _ _ _ (c .before .before .before .before .before .before .before .before .neighbour-table .ensures) (c .before .postorder .ensures)
-
-starts-requires : tie.Need-starts-requires
-starts-requires c κs = (found-sound _ _ _ (passed (c .before .before .before .before .before .before .before .before .before .before .before .before) .0), c .before .before .before .before .before .before .before .neighbour-table2 .ensures)
-
-solve-and-write-requires : tie.Need-solve-and-write-requires
-solve-and-write-requires c κs =
-    let e = c .before .before .before .before .before .before .before .before .before .before .before .before .before .before .before .before .before .before .before .before .before .before .before in
-    let p = passed e in (
-      ready _ _ _ (p .0) _ _ _ _ _ _ _ _ _ (c .before .before .before .before .before .before .before .before .before .before .before .before .before .before .before .before .before .before .before .before .before .before .edge-weights .ensures) (c .before .before .before .before .before .before .before .before .before .before .before .before .before .before .before .before .before .before .before .before .before .neighbour-table .ensures) (c .before .before .before .before .before .before .before .before .before .before .before .before .before .before .before .before .before .before .before .edge-label-table .ensures) (c .before .before .before .before .before .before .before .before .before .before .before .before .before .before .before .before .before .before .neighbour-table2 .ensures) (c .before .before .before .before .before .before .before .before .before .before .before .before .before .before .before .before .edge-label-table2 .ensures) (c .before .before .before .before .before .before .before .before .before .before .before .before .before .before .postorder .ensures) (c .before .before .before .before .before .before .before .before .before .before .before .before .places .ensures) (c .before .before .before .before .before .before .before .before .before .before .starts .ensures),
-      (record { enough = p .1 }, p .2),
-    )
-
-same-length-3 : tie.Need-same-length-3
-same-length-3 c = search needs
-
-same-length-4 : tie.Need-same-length-4
-same-length-4 c = search needs
+begin-requires : tie.Need-begin-requires
+begin-requires c κs = omega (arith, c .vertex-count .ensures, inputs-few (ready-inputs (ready (c .before .before .before .before))) .0)
 
 returns-2 : tie.Need-returns-2
 returns-2 c =
-    let e = c .before .before .before .before .before .before .before .before .before .before .before .before .before .before .before .before .before .before .before .before .before .before .before .before .before .before .before in
-    let s = c .before .before .before .solve-and-write .ensures in
-    let g = ap Written (s .long) in
+    let e = c .before .before .before .before .before .before .before in
+    let a = e .before .before .before .before .before .before .before .args in
+    let w = write-room (a .table .now) (a .recorded .now) (a .found .now) (a .work .now) (a .certificate .now) (zero e) (let l = long (c .before) in omega (arith, c .if2 .taken)) in
+    let g = ap Refused (sym w) in
     record {
-      refused = λ n. absurd (n (zero e));
+      refused = λ n. record { given = g; number = refused-number g; measures = refused-length g; work-kept = refl; certificate-kept = refl };
+      written = λ z. absurd (let q = sym w ∙ z in omega (arith, q));
+    }
+
+solve-and-write-requires : tie.Need-solve-and-write-requires
+solve-and-write-requires c κs =
+    let at-begin = c .before .before .before .before .before in
+    let at-make = at-begin .before .before .before .before .before in
+    (ready at-make, (at-begin .before .before .before .places-of .ensures, (record { enough = passed (at-make .before) .1 }, (let l = long at-begin in omega (arith, c .before .before .before .before .if2 .left)))))
+
+cast-length : tie.Need-cast-length
+cast-length c =
+    let at-begin = c .before .before .before .before .before .before .before .before .before in
+    omega (arith, long at-begin, inputs-length (ready-inputs (ready (at-begin .before .before .before .before .before))))
+
+returns-3 : tie.Need-returns-3
+returns-3 c =
+    let at-begin = c .before .before .before .before .before .before .before .before .before in
+    let e = at-begin .before .before .before .before .before .before in
+    let a = e .before .before .before .before .before .before .before .args in
+    let s = c .before .before .before .solve-and-write .ensures in
+    let w = write-none (a .table .now) (a .recorded .now) (a .found .now) (a .work .now) (a .certificate .now) (zero e) (let l = long at-begin in omega (arith, c .before .before .before .before .before .before .before .before .if2 .left)) in
+    let g = ap Written (long at-begin) in
+    record {
+      refused = λ n. absurd (n w);
       written = λ z. record { values-left = s .filled; rest = s .rest; accepted = s .accepted; values-in = s .values-in; weight-in = s .weight-in; heaviest-in = s .heaviest-in; given = g; number = written-number g; measures = written-length g };
     }
 
@@ -90,19 +98,17 @@ pub write-certificate-spec : {M : Type 1} → statement M
 write-certificate-spec =
     tie.close
     (tie.spec
-    write-item-requires
-    same-length
-    same-length-2
+    start-item-requires
+    (λ c. search needs)
     returns
-    edge-weights-requires
-    neighbour-table-requires
-    edge-label-table-requires
-    neighbour-table-requires-2
-    edge-label-table-requires-2
-    postorder-requires
-    places-requires
-    starts-requires
+    make-requires
+    places-of-requires
+    vertex-count-requires
+    begin-requires
+    (λ c. search needs)
+    returns-2
     solve-and-write-requires
-    same-length-3
-    same-length-4
-    returns-2)
+    cast-length
+    (λ c. search needs)
+    (λ c. search needs)
+    returns-3)

@@ -28,12 +28,6 @@ add-is-partner c = search needs
 is-partner-requires : tie.Need-is-partner-requires Inv-loop μ-loop
 is-partner-requires c κs = search needs
 
-add-u : tie.Need-add-u Inv-loop μ-loop
-add-u c = search needs
-
-loop-less : tie.Need-loop-less Inv-loop μ-loop
-loop-less c = search needs
-
 loop-again : tie.Need-loop-again Inv-loop μ-loop
 loop-again c =
     let l = c .before .before in
@@ -56,7 +50,7 @@ partners-marked-spec =
     mul-is-partner
     add-is-partner
     is-partner-requires
-    add-u
-    loop-less
+    (λ c. search needs)
+    (λ c. search needs)
     loop-again
     returns)

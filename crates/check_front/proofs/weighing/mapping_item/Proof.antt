@@ -9,8 +9,8 @@ use Rattle.foundations.specs.Machine.{back}
 use Rattle.model.specs.Tree.{count}
 use Rattle.model.specs.Mapping.{IsMapping, mappingOk, weight}
 use Rattle.model.specs.Certificate.{mappingIn, weightIn, eqZ}
-use Rattle.trees.specs.Accepted.{Ends}
-use Rattle.formats.specs.Inputs.{input-accepted}
+use Rattle.trees.specs.Accepted.{Ends, whole}
+use Rattle.plan.specs.Numbers.{ready-accepted}
 use Rattle.subtrees.specs.Theorems.{quick-mapping}
 use Rattle.check_front.specs.Steps.{PartnersOf, partners-of, partners-inside, weights-compared, item-21, item-22, item-none}
 use Rattle.check_front.proofs.weighing.mapping_item.Statement.{statement}
@@ -18,7 +18,7 @@ use Rattle.check_front.proofs.weighing.mapping_item.Tie as tie
 
 module _ (s : tie.Start) where
   ends : Ends (s .args .recorded .now) (count (s .args .recorded .now))
-  ends = input-accepted _ _ _ (s .pre .0 .passes) .recorded .ends
+  ends = ready-accepted (s .pre .0) .recorded .ends
 
 -- the partners read are the certificate's mapping
 module _ (c : tie.After-partners) where
@@ -55,7 +55,7 @@ module _ (c : tie.After-same) where
       weights-compared _ _ _ _ _ _ (v .result) (w .result) (c .same .result) (top .pre .1 .1) (stands (ok .before .before)) (v .ensures) (w .ensures) q
 
 vertex-count-requires : tie.Need-vertex-count-requires
-vertex-count-requires c κs = let e = ends (c .before .before .before .before) in record { some = e .some; few = e .few; long = e .long }
+vertex-count-requires c κs = whole (ends (c .before .before .before .before))
 
 add-partners : tie.Need-add-partners
 add-partners c = search needs
@@ -68,8 +68,7 @@ partners-requires c κs =
 
 mapping-ok-requires : tie.Need-mapping-ok-requires
 mapping-ok-requires c κs =
-    let R = start (c .before) .pre .0 in
-    (R .passes, (R .recorded, (R .found, (R .placed, room (c .before)))))
+    (start (c .before) .pre .0, room (c .before))
 
 returns : tie.Need-returns
 returns c = item-21 _ _ _ _ (c .before .mapping-ok .result) (tested (c .before)) (c .if1 .taken)
@@ -85,7 +84,7 @@ weigh-requires c κs =
     let R = s .pre .0 in
     let P = stands p in
     let ok = passed (mappingOk (s .args .table .now) (s .args .recorded .now) (s .args .found .now) (mappingIn (s .args .recorded .now) (s .args .z .now))) (m .mapping-ok .result) (tested m) (c .before .if1 .left) in
-    (R .passes, (R .weights, (R .found, (room p, subst (IsMapping (s .args .table .now) (s .args .recorded .now) (s .args .found .now)) (sym (P .front)) (quick-mapping _ _ _ (R .passes) _ .0 ok)))))
+    (R, (room p, subst (IsMapping (s .args .table .now) (s .args .recorded .now) (s .args .found .now)) (sym (P .front)) (quick-mapping _ _ _ (R .passes) _ .0 ok)))
 
 add-int32-at : tie.Need-add-int32-at
 add-int32-at c = search needs

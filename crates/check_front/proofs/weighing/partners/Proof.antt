@@ -15,9 +15,6 @@ abbrev μ-loop : tie.MeasureT-loop
 loop-holds : tie.Need-loop-holds Inv-loop μ-loop
 loop-holds c = (omega arith, partners-none _ _)
 
-add-p : tie.Need-add-p Inv-loop μ-loop
-add-p c = search needs
-
 mul-p : tie.Need-mul-p Inv-loop μ-loop
 mul-p c = search needs
 
@@ -29,12 +26,6 @@ shared-slice-read-p c = search needs
 
 array-write-p : tie.Need-array-write-p Inv-loop μ-loop
 array-write-p c = omega arith
-
-add-u : tie.Need-add-u Inv-loop μ-loop
-add-u c = search needs
-
-loop-less : tie.Need-loop-less Inv-loop μ-loop
-loop-less c = search needs
 
 loop-again : tie.Need-loop-again Inv-loop μ-loop
 loop-again c = let l = c .before .before .loop in (omega arith, partners-more _ _ _ _ (omega arith) (l .inv .1))
@@ -49,12 +40,12 @@ partners-spec =
     Inv-loop
     μ-loop
     loop-holds
-    add-p
+    (λ c. search needs)
     mul-p
     add-p-2
     shared-slice-read-p
     array-write-p
-    add-u
-    loop-less
+    (λ c. search needs)
+    (λ c. search needs)
     loop-again
     returns)

@@ -1,5 +1,5 @@
 -- `all_covered` meets its contract: the test is gathered row by row. Assumes nothing.
-use Rattle.check_records.specs.Cover.{rowCovered, row-cover}
+use Rattle.check_records.specs.Cover.{rowCovered, row-duals}
 use Rattle.foundations.specs.Lists.{every, every-step, every-end}
 use mathlib.Core.Path.{_≡_, refl}
 use Prim.Native.Nat.{_≤_, _-_}
@@ -25,13 +25,7 @@ element-copy-out-row-covered : tie.Need-element-copy-out-row-covered Inv-loop μ
 element-copy-out-row-covered c = search needs
 
 row-covered-requires : tie.Need-row-covered-requires Inv-loop μ-loop
-row-covered-requires c κs = let l = c .before .before in row-cover (l .before .pre) (l .loop .i) (omega (arith, c .before .loop-test .taken))
-
-add-i : tie.Need-add-i Inv-loop μ-loop
-add-i c = search needs
-
-loop-less : tie.Need-loop-less Inv-loop μ-loop
-loop-less c = search needs
+row-covered-requires c κs = let l = c .before .before in row-duals (l .before .pre) (l .loop .i) (omega (arith, c .before .loop-test .taken))
 
 loop-again : tie.Need-loop-again Inv-loop μ-loop
 unfolding rowCovered
@@ -56,7 +50,7 @@ all-covered-spec =
     mul-row-covered
     element-copy-out-row-covered
     row-covered-requires
-    add-i
-    loop-less
+    (λ c. search needs)
+    (λ c. search needs)
     loop-again
     returns)

@@ -1,5 +1,5 @@
 -- `forbidden_ok` meets its contract. Assumes nothing.
-use Rattle.check_records.specs.Cover.{noughtIn, stands-below, stands-across}
+use Rattle.check_records.specs.Cover.{zerosIn, inside-below, inside-across}
 use Rattle.foundations.specs.Machine.{Same, back}
 use borrow.Author.Needs.{needs}
 use Rattle.check_records.proofs.cover.forbidden_ok.Statement.{statement}
@@ -14,32 +14,32 @@ int32-at-requires c κs = search needs
 is-forbidden-requires : tie.Need-is-forbidden-requires
 is-forbidden-requires c κs = search needs
 
-add-all-nought : tie.Need-add-all-nought
-add-all-nought c = search needs
+add-all-zero : tie.Need-add-all-zero
+add-all-zero c = search needs
 
-all-nought-requires : tie.Need-all-nought-requires
-all-nought-requires c κs = stands-below (c .before .before .before .pre)
+all-zero-requires : tie.Need-all-zero-requires
+all-zero-requires c κs = inside-below (c .before .before .before .pre)
 
-add-all-nought-2 : tie.Need-add-all-nought-2
-add-all-nought-2 c = search needs
+add-all-zero-2 : tie.Need-add-all-zero-2
+add-all-zero-2 c = search needs
 
-mul-all-nought : tie.Need-mul-all-nought
-mul-all-nought c = search needs
+mul-all-zero : tie.Need-mul-all-zero
+mul-all-zero c = search needs
 
-add-all-nought-3 : tie.Need-add-all-nought-3
-add-all-nought-3 c = search needs
+add-all-zero-3 : tie.Need-add-all-zero-3
+add-all-zero-3 c = search needs
 
-all-nought-requires-2 : tie.Need-all-nought-requires-2
-all-nought-requires-2 c κs = stands-across (c .before .before .before .before .pre)
+all-zero-requires-2 : tie.Need-all-zero-requires-2
+all-zero-requires-2 c κs = inside-across (c .before .before .before .before .pre)
 
 returns : tie.Need-returns
-unfolding noughtIn
+unfolding zerosIn
 returns c =
     let n = c .before in
     let f = n .before in
     let x = f .before in
     let d : Same (x .int32-at .result) = back (x .int32-at .ok) in
-    rw (f .is-forbidden .ensures, d, x .int32-at .ensures, n .all-nought .ensures, c .all-nought2 .ensures)
+    rw (f .is-forbidden .ensures, d, x .int32-at .ensures, n .all-zero .ensures, c .all-zero2 .ensures)
 
 pub forbidden-ok-spec : {M : Type 1} → statement M
 forbidden-ok-spec =
@@ -48,10 +48,10 @@ forbidden-ok-spec =
     add-int32-at
     int32-at-requires
     is-forbidden-requires
-    add-all-nought
-    all-nought-requires
-    add-all-nought-2
-    mul-all-nought
-    add-all-nought-3
-    all-nought-requires-2
+    add-all-zero
+    all-zero-requires
+    add-all-zero-2
+    mul-all-zero
+    add-all-zero-3
+    all-zero-requires-2
     returns)

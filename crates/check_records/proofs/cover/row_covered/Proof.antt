@@ -25,13 +25,22 @@ mul-t : tie.Need-mul-t Inv-loop μ-loop
 mul-t c = search needs
 
 add-t : tie.Need-add-t Inv-loop μ-loop
-add-t c = let l = c .before .before in let p = l .before .pre in omega (arith, p .row, p .low (l .loop .j) (omega (arith, c .before .loop-test .taken)), c .column .ensures)
+add-t c =
+    let l = c .before .before in
+    let p = l .before .pre in
+    omega (arith, p .row, p .low (l .loop .j) (omega (arith, c .before .loop-test .taken)), c .column .ensures)
 
 mul-t-2 : tie.Need-mul-t-2 Inv-loop μ-loop
-mul-t-2 c = let l = c .before .before in let p = l .before .pre in omega (arith, p .row, p .low (l .loop .j) (omega (arith, c .before .loop-test .taken)), c .column .ensures)
+mul-t-2 c =
+    let l = c .before .before in
+    let p = l .before .pre in
+    omega (arith, p .row, p .low (l .loop .j) (omega (arith, c .before .loop-test .taken)), c .column .ensures)
 
 element-copy-out-t : tie.Need-element-copy-out-t Inv-loop μ-loop
-element-copy-out-t c = let l = c .before .before in let p = l .before .pre in omega (arith, p .row, p .low (l .loop .j) (omega (arith, c .before .loop-test .taken)), c .column .ensures)
+element-copy-out-t c =
+    let l = c .before .before in
+    let p = l .before .pre in
+    omega (arith, p .row, p .low (l .loop .j) (omega (arith, c .before .loop-test .taken)), c .column .ensures)
 
 mul-t-3 : tie.Need-mul-t-3 Inv-loop μ-loop
 mul-t-3 c = search needs
@@ -40,13 +49,10 @@ element-copy-out-t-2 : tie.Need-element-copy-out-t-2 Inv-loop μ-loop
 element-copy-out-t-2 c = search needs
 
 add-t-2 : tie.Need-add-t-2 Inv-loop μ-loop
-add-t-2 c = let l = c .before .before .before .before in let p = l .before .pre in omega (arith, p .dual, p .duals (l .loop .j) (omega (arith, c .before .before .before .loop-test .taken)))
-
-add-j : tie.Need-add-j Inv-loop μ-loop
-add-j c = search needs
-
-loop-less : tie.Need-loop-less Inv-loop μ-loop
-loop-less c = search needs
+add-t-2 c =
+    let l = c .before .before .before .before in
+    let p = l .before .pre in
+    omega (arith, p .dual, p .duals (l .loop .j) (omega (arith, c .before .before .before .loop-test .taken)))
 
 loop-again : tie.Need-loop-again Inv-loop μ-loop
 unfolding isCovered
@@ -77,7 +83,7 @@ row-covered-spec =
     mul-t-3
     element-copy-out-t-2
     add-t-2
-    add-j
-    loop-less
+    (λ c. search needs)
+    (λ c. search needs)
     loop-again
     returns)

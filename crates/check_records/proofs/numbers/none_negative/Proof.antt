@@ -31,12 +31,6 @@ int32-at-requires c κs = search needs
 is-natural-requires : tie.Need-is-natural-requires Inv-loop μ-loop
 is-natural-requires c κs = search needs
 
-add-i : tie.Need-add-i Inv-loop μ-loop
-add-i c = search needs
-
-loop-less : tie.Need-loop-less Inv-loop μ-loop
-loop-less c = search needs
-
 loop-again : tie.Need-loop-again Inv-loop μ-loop
 unfolding notNegative
 loop-again c =
@@ -63,7 +57,7 @@ none-negative-spec =
     add-int32-at
     int32-at-requires
     is-natural-requires
-    add-i
-    loop-less
+    (λ c. search needs)
+    (λ c. search needs)
     loop-again
     returns)

@@ -1,8 +1,8 @@
 -- `numbers_in` meets its contract. Assumes nothing.
-use Rattle.check_records.specs.Numbers.{NumbersIn, numbers-none, numbers-more}
-use Rattle.foundations.specs.Machine.{Same, back}
-use mathlib.Core.Path.{_≡_, refl}
 use Prim.Native.Nat.{_≤_, _-_}
+use mathlib.Core.Path.{_≡_, refl, _∙_}
+use Rattle.foundations.specs.Machine.{Same, back}
+use Rattle.check_records.specs.Numbers.{NumbersIn, numbers-none, numbers-more}
 use borrow.Author.Needs.{needs}
 use native.Mathlib.Omega.{arith}
 use Rattle.check_records.proofs.numbers.numbers_in.Statement.{statement}
@@ -29,25 +29,23 @@ int32-at-requires c κs = search needs
 above-zero-requires : tie.Need-above-zero-requires Inv-loop μ-loop
 above-zero-requires c κs = search needs
 
+wide-requires : tie.Need-wide-requires Inv-loop μ-loop
+wide-requires c κs = search needs
+
 mul-r : tie.Need-mul-r Inv-loop μ-loop
 mul-r c = search needs
 
 array-write-r : tie.Need-array-write-r Inv-loop μ-loop
 array-write-r c = search needs
 
-add-i : tie.Need-add-i Inv-loop μ-loop
-add-i c = search needs
-
-loop-less : tie.Need-loop-less Inv-loop μ-loop
-loop-less c = search needs
-
 loop-again : tie.Need-loop-again Inv-loop μ-loop
 loop-again c =
-    let x = c .before in
+    let a = c .before in
+    let x = a .before in
     let l = x .before .before in
     let s = l .before .before in
     let d : Same (x .int32-at .result) = back (x .int32-at .ok) in
-    (omega arith, numbers-more (s .args .z .now) (s .args .at) (l .loop .i) (l .loop .r) (c .above-zero .result) (omega (arith, s .pre .few)) (l .loop .inv .1) (rw (d, x .int32-at .ensures) at (c .above-zero .ensures .0)) (c .above-zero .ensures .1))
+    (omega arith, numbers-more (s .args .z .now) (s .args .at) (l .loop .i) (l .loop .r) (c .wide .result) (omega (arith, s .pre .few)) (l .loop .inv .1) (c .wide .ensures ∙ (rw (d, x .int32-at .ensures) at (a .above-zero .ensures .0))) (omega (arith, c .wide .ensures, a .above-zero .ensures .1)))
 
 returns : tie.Need-returns Inv-loop μ-loop
 returns c = let e : c .before .loop .i ≡ c .before .before .before .args .count = omega arith in rw e at (c .before .loop .inv .1)
@@ -63,9 +61,10 @@ numbers-in-spec =
     add-int32-at
     int32-at-requires
     above-zero-requires
+    wide-requires
     mul-r
     array-write-r
-    add-i
-    loop-less
+    (λ c. search needs)
+    (λ c. search needs)
     loop-again
     returns)

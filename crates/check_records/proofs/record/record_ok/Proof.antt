@@ -1,8 +1,7 @@
 -- `record_ok` tests the record as that of a forbidden pair or of another. Assumes nothing.
 use mathlib.Core.Path.{sym, _∙_}
 use Rattle.foundations.specs.Machine.{Same}
-use Rattle.check_records.specs.PairRecords.{rules-none, rules-some}
-use native.Mathlib.Omega.{arith}
+use Rattle.check_records.specs.Records.{rules-none, rules-some}
 use borrow.Author.Needs.{needs}
 use Rattle.check_records.proofs.record.record_ok.Statement.{statement}
 use Rattle.check_records.proofs.record.record_ok.Tie as tie

@@ -1,27 +1,30 @@
--- `greatest` compares the values of all recorded vertices. The invariant: those below u are compared. Assumes nothing.
-use Rattle.check_records.specs.Greatest.{Greatest, row-top, greatest-none, greatest-end}
-use Rattle.records.specs.Places.{sound-whole, inputs-recorded, inputs-found}
-use mathlib.Core.Path.{_≡_, _∙_, subst}
-use Prim.Native.Nat.{ℕ, _≤_, _-_, _<_}
+-- `greatest` meets its contract. Assumes nothing.
+use Prim.Native.Nat.{_≤_, _<_, _-_, _^_}
+use mathlib.Core.Path.{_≡_}
+use Rattle.model.specs.Limits.{vertexLimit}
+use Rattle.model.specs.Tree.{count}
+use Rattle.trees.specs.Accepted.{whole}
+use Rattle.records.specs.Places.{inputs-recorded, inputs-few}
+use Rattle.check_records.specs.Greatest.{most, most-none, most-more, ownMost}
 use borrow.Author.Needs.{needs}
 use native.Mathlib.Omega.{arith}
 use Rattle.check_records.proofs.top.greatest.Statement.{statement}
 use Rattle.check_records.proofs.top.greatest.Tie as tie
 
 abbrev Inv-loop : tie.InvT-loop
-Inv-loop recorded found certificate begins sizes sums starts place n m top₀ u₀ top u = (u ≤ n) × Greatest recorded found certificate u 0 top
+Inv-loop recorded found plan places certificate n all₀ u₀ all u = (u ≤ n) × (n ≡ count recorded) × (n ≤ vertexLimit) × (all ≡ most (ownMost recorded found certificate) u) × (all < 2 ^ 31)
 
 abbrev μ-loop : tie.MeasureT-loop
-μ-loop recorded found certificate begins sizes sums starts place n m top₀ u₀ top u = n - u
+μ-loop recorded found plan places certificate n all₀ u₀ all u = n - u
 
 vertex-count-requires : tie.Need-vertex-count-requires Inv-loop μ-loop
-vertex-count-requires c κs = sound-whole (inputs-recorded (c .before .before .before .pre .0 .inputs))
-
-vertex-count-requires-2 : tie.Need-vertex-count-requires-2 Inv-loop μ-loop
-vertex-count-requires-2 c κs = sound-whole (inputs-found (c .before .before .before .before .pre .0 .inputs))
+vertex-count-requires c κs = whole (inputs-recorded (c .before .before .before .pre .0 .inputs) .passed .ends)
 
 loop-holds : tie.Need-loop-holds Inv-loop μ-loop
-loop-holds c = (omega arith, greatest-none _ _ _)
+loop-holds c =
+    let p = c .before .before .before .before .pre in
+    let e = c .vertex-count .ensures in
+    (omega arith, e, omega (arith, e, inputs-few (p .0 .inputs) .0), most-none _, omega arith)
 
 cast-loop : tie.Need-cast-loop Inv-loop μ-loop
 cast-loop c = search needs
@@ -29,31 +32,24 @@ cast-loop c = search needs
 top-of-row-requires : tie.Need-top-of-row-requires Inv-loop μ-loop
 top-of-row-requires c κs =
     let l = c .before in
-    let m = l .before in
-    let n = m .before in
-    let p = n .before .before .before .before .pre in
-    let h : l .loop .u < n .vertex-count .result = c .loop-test .taken in
-    (p .0, (p .1 .0, (row-top (p .0) (p .1 .1) (l .loop .u) (m .vertex-count2 .result) (subst (λ (k : ℕ). l .loop .u < k) (n .vertex-count .ensures) h) (m .vertex-count2 .ensures), l .loop .inv .1)))
+    let p = l .before .before .before .before .before .pre in
+    (p .0, (p .1, omega (arith, l .loop .inv .1)))
 
-add-u : tie.Need-add-u Inv-loop μ-loop
-add-u c =
-    let t = c .before in
-    let n = t .before .before .before in
-    let few = inputs-recorded (n .before .before .before .before .pre .0 .inputs) .passed .ends .few in
-    omega (arith, few, n .vertex-count .ensures, t .loop-test .taken)
-
-loop-less : tie.Need-loop-less Inv-loop μ-loop
-loop-less c = search needs
+greater-requires : tie.Need-greater-requires Inv-loop μ-loop
+greater-requires c κs = search needs
 
 loop-again : tie.Need-loop-again Inv-loop μ-loop
-loop-again c = (omega arith, c .top-of-row .ensures)
+loop-again c =
+    let t = c .before in
+    let l = t .before .before in
+    let a = l .before .before .before .before .before .args in
+    (omega arith, l .loop .inv .1, l .loop .inv .2, most-more (ownMost (a .recorded .now) (a .found .now) (a .certificate .now)) (l .loop .u) (l .loop .all) (t .top-of-row .result) (c .greater .result) (l .loop .inv .3) (t .top-of-row .ensures .0) (c .greater .ensures), omega (arith, c .greater .ensures, t .top-of-row .ensures .1, l .loop .inv .4))
 
 returns : tie.Need-returns Inv-loop μ-loop
 returns c =
     let l = c .before in
-    let n = l .before .before in
-    let e : l .loop .u ≡ n .vertex-count .result = omega arith in
-    greatest-end _ _ _ (l .loop .u) _ (l .loop .top) (l .loop .inv .1) (e ∙ n .vertex-count .ensures)
+    let e : l .loop .u ≡ l .before .vertex-count .result = omega arith in
+    (rw (e, l .loop .inv .1) at (l .loop .inv .3), l .loop .inv .4)
 
 pub greatest-spec : {M : Type 1} → statement M
 greatest-spec =
@@ -62,11 +58,11 @@ greatest-spec =
     Inv-loop
     μ-loop
     vertex-count-requires
-    vertex-count-requires-2
     loop-holds
     cast-loop
     top-of-row-requires
-    add-u
-    loop-less
+    greater-requires
+    (λ c. search needs)
+    (λ c. search needs)
     loop-again
     returns)

@@ -1,6 +1,6 @@
 -- `finish_result` gives the numbers of the answer of the record that the memory stands for. Assumes nothing.
 use borrow.Author.Needs.{needs}
-use Rattle.exports.specs.MemoryLaws.{finishes-memory}
+use Rattle.exports.specs.Answers.{finishes}
 use Rattle.exports.proofs.job_calls.finish_result.Statement.{statement}
 use Rattle.exports.proofs.job_calls.finish_result.Tie as tie
 
@@ -13,15 +13,12 @@ finish-requires c κs = search needs
 numbers-requires : tie.Need-numbers-requires
 numbers-requires c κs = search needs
 
-same-length : tie.Need-same-length
-same-length c = search needs
-
 returns : tie.Need-returns
 returns c =
     let core = c .before .before .before in
     let n = c .numbers .ensures in
-    finishes-memory _ _ (core .before .before .record-of .ensures) (core .finish .ensures) (n .0) (n .1)
+    finishes _ _ (core .before .before .record-of .ensures) (core .finish .ensures) (n .0) (n .1)
 
 pub finish-result-spec : {M : Type 1} → statement M
 finish-result-spec =
-    tie.close (tie.spec record-of-requires finish-requires numbers-requires same-length returns)
+    tie.close (tie.spec record-of-requires finish-requires numbers-requires (λ c. search needs) returns)

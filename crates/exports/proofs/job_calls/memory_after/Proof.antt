@@ -1,4 +1,4 @@
--- `memory_after` gives the old memory where the call was turned down. Assumes nothing.
+-- `memory_after` gives the old memory where the call was refused. Assumes nothing.
 use mathlib.Core.Path.{_≡_, sym, _∙_}
 use borrow.Author.Needs.{needs}
 use Rattle.exports.specs.MemoryLaws.{after-refused, after-accepted}

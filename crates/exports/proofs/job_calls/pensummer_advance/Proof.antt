@@ -42,9 +42,7 @@ use denote.Triple.Table.{entered, cited}
 use denote.Triple.Walked.{says, Stays, stay-ref, stay-dropped, gave-slice, walkOf, AllGo, goes-dropped, goes-gave-slice, goes-ref, Walks, ends-at, walked, walk-meets}
 use denote.Exit.{yes}
 use Rattle.exports.specs.declared.job_calls.JobMemory.{JobMemory}
-use Rattle.model.specs.declared.AdvanceOutcome.{AdvanceOutcome}
-use Rattle.model.specs.Jobs.{advanceOf, advanceWork, advanceRefusal, advanceCount}
-use Rattle.exports.specs.Memory.{recordOf, advanceMemory}
+use Rattle.exports.specs.Exported.{Advances}
 use Rattle.exports.proofs.job_calls.JobMemory as T
 use Rattle.exports.proofs.job_calls.JobMemory.Laws as T′
 use Rattle.exports.specs.declared.job_calls.AdvanceNumbers.{AdvanceNumbers}
@@ -106,15 +104,9 @@ module _ {M : Type 1} (𝓤 : URA M) (H : Heap 𝓤) (A : Atoms 𝓤) (W : Given
   abbrev Post : Val → SProp 𝓤
   Post = walkOf 𝓤 H A this.ended stayed (this.clauses 𝓤 H A at-mem run) .post y
 
-  abbrev out : AdvanceOutcome
-  out = advanceOf (recordOf h) (x₁ .now) (x₂ .now) (x₃ .now) k (x₄ .now)
-
-  abbrev done-work : List (i32 .Denot)
-  done-work = advanceWork (recordOf h) (x₁ .now) (x₂ .now) (x₃ .now) k (x₄ .now)
-
   -- what the core says of its result and of the last list
   abbrev Said : AdvanceNumbers → List (i32 .Denot) → Type 0
-  Said r zs = (r .job ≡ advanceMemory h (x₁ .now) (x₂ .now) (x₃ .now) k (x₄ .now)) × (r .result .refusal ≡ advanceRefusal (out .answer)) × (r .result .count ≡ advanceCount (out .answer)) × (zs ≡ done-work)
+  Said r zs = Advances h (x₁ .now) (x₂ .now) (x₃ .now) k (x₄ .now) (r .job) zs (r .result .refusal) (r .result .count)
 
   -- what `advance_numbers`'s triple binds outside
   abbrev to : Core 𝓤 H A at-mem run .Ghost

@@ -1,7 +1,7 @@
 -- `exports::job_calls::pensummer_start` meets its contract: a walk of its MIR, by hand. The borrow is opened, the record is copied out and passed to `start_numbers` with
 -- the rest, the record that comes back is stored over the old one, and the borrow is closed at it. All that the proof knows of `start_numbers` is that it
 -- meets its contract. Nothing is had of the slices at exit: they are passed on. Assumes nothing.
-use mathlib.Core.Path.{_≡_, refl, ap}
+use mathlib.Core.Path.{refl, ap}
 use Prim.Native.Nat.{ℕ, _<_, _^_}
 use mathlib.Core.List.{[], _∷_, List}
 use lib.ListN.{length}
@@ -42,9 +42,7 @@ use denote.Triple.Table.{entered, cited}
 use denote.Triple.Walked.{says, Stays, stay-ref, stay-dropped, walkOf, AllGo, goes-dropped, goes-ref, Walks, ends-at, walked, walk-meets}
 use denote.Exit.{yes}
 use Rattle.exports.specs.declared.job_calls.JobMemory.{JobMemory}
-use Rattle.model.specs.declared.StartOutcome.{StartOutcome}
-use Rattle.model.specs.Jobs.{startOf, startRefusal}
-use Rattle.exports.specs.Memory.{recordOf, startMemory}
+use Rattle.exports.specs.Exported.{Starts}
 use Rattle.exports.proofs.job_calls.JobMemory as T
 use Rattle.exports.proofs.job_calls.JobMemory.Laws as T′
 use Rattle.exports.specs.declared.job_calls.StartNumbers.{StartNumbers}
@@ -107,12 +105,9 @@ module _ {M : Type 1} (𝓤 : URA M) (H : Heap 𝓤) (A : Atoms 𝓤) (W : Given
   abbrev n : ℕ
   n = length (x₄ .now)
 
-  abbrev out : StartOutcome
-  out = startOf (recordOf h) (x₁ .now) (x₂ .now) (x₃ .now) (x₄ .now)
-
   -- what the core says of its result
   abbrev Said : StartNumbers → Type 0
-  Said r = (r .job ≡ startMemory h (x₁ .now) (x₂ .now) (x₃ .now) (x₄ .now)) × (r .refusal ≡ startRefusal (out .answer))
+  Said r = Starts h (x₁ .now) (x₂ .now) (x₃ .now) (x₄ .now) (r .job) (r .refusal)
 
   -- what `start_numbers`'s triple binds outside
   abbrev to : Core 𝓤 H A at-mem run .Ghost

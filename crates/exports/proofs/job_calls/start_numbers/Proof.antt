@@ -1,6 +1,6 @@
 -- `start_numbers` gives the memory that the core's answer leaves and the number of that answer. Assumes nothing.
 use borrow.Author.Needs.{needs}
-use Rattle.exports.specs.MemoryLaws.{start-memory}
+use Rattle.exports.specs.Answers.{starts}
 use Rattle.exports.proofs.job_calls.start_numbers.Statement.{statement}
 use Rattle.exports.proofs.job_calls.start_numbers.Tie as tie
 
@@ -20,7 +20,7 @@ returns : tie.Need-returns
 returns c =
     let core = c .before .before .before in
     let a = core .before .before .before .before .before .args in
-    start-memory (a .job) (a .table .now) (a .recorded .now) (a .found .now) (a .work .now)
+    starts (a .job) (a .table .now) (a .recorded .now) (a .found .now) (a .work .now)
     (core .before .record-of .result) (core .start-core .result) (c .before .start-number .result) (c .memory-after .result)
     (core .before .record-of .ensures) (core .start-core .ensures) (c .before .start-number .ensures) (c .memory-after .ensures)
 

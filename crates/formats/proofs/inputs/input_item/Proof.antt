@@ -1,8 +1,5 @@
 -- `input_item` tests the table, then the recorded tree, then the found tree, each only if the parts before it pass. Assumes nothing.
-use mathlib.Core.Path.{_≡_, sym, ap, _∙_}
-use mathlib.Core.Logic.{_≢_}
-use Prim.Native.Nat.{ℕ}
-use native.Mathlib.Omega.{arith}
+use mathlib.Core.Path.{_≡_, sym, _∙_}
 use borrow.Author.Needs.{needs}
 use Rattle.model.specs.Table.{vertexLabels, edgeLabels, tableItem}
 use Rattle.model.specs.Tree.{treeItem}

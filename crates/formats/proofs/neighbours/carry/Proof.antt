@@ -2,7 +2,6 @@
 use Rattle.formats.specs.Insertion.{carried-same, carried-other}
 use Prim.Native.Nat.{max}
 use mathlib.Core.Path.{_≡_, sym, _∙_}
-use borrow.Author.Needs.{needs}
 use native.Mathlib.Omega.{arith}
 use Rattle.formats.proofs.neighbours.carry.Statement.{statement}
 use Rattle.formats.proofs.neighbours.carry.Tie as tie

@@ -101,12 +101,6 @@ mul-t-2 c = omega (arith, low-b (c .before .before .before .before .before .befo
 array-set-from-t-2 : tie.Need-array-set-from-t-2 Inv-loop μ-loop
 array-set-from-t-2 c = omega (arith, low-b (c .before .before .before .before .before .before))
 
-add-j : tie.Need-add-j Inv-loop μ-loop
-add-j c = search needs
-
-loop-less : tie.Need-loop-less Inv-loop μ-loop
-loop-less c = search needs
-
 loop-again : tie.Need-loop-again Inv-loop μ-loop
 loop-again c =
     let e = c .before .before .before .before .before .before in
@@ -153,7 +147,7 @@ edge-label-table-spec =
     cast-t-2
     mul-t-2
     array-set-from-t-2
-    add-j
-    loop-less
+    (λ c. search needs)
+    (λ c. search needs)
     loop-again
     returns)

@@ -1,7 +1,5 @@
 -- `label_of` meets its contract. Assumes nothing.
 use borrow.Author.Tests.{eq-eqb, ne-eqb}
-use borrow.Author.Needs.{needs}
-use native.Mathlib.Omega.{arith}
 use Rattle.formats.proofs.neighbours.label_of.Statement.{statement}
 use Rattle.formats.proofs.neighbours.label_of.Tie as tie
 

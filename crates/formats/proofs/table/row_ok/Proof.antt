@@ -23,12 +23,6 @@ loop-holds c = (omega arith, refl)
 entry-ok-requires : tie.Need-entry-ok-requires Inv-loop μ-loop
 entry-ok-requires c κs = search needs
 
-add-j : tie.Need-add-j Inv-loop μ-loop
-add-j c = search needs
-
-loop-less : tie.Need-loop-less Inv-loop μ-loop
-loop-less c = search needs
-
 loop-again : tie.Need-loop-again Inv-loop μ-loop
 unfolding rowOk
 loop-again c =
@@ -46,4 +40,4 @@ returns c =
 pub row-ok-spec : {M : Type 1} → statement M
 row-ok-spec =
     tie.close
-    (tie.spec Inv-loop μ-loop loop-holds entry-ok-requires add-j loop-less loop-again returns)
+    (tie.spec Inv-loop μ-loop loop-holds entry-ok-requires (λ c. search needs) (λ c. search needs) loop-again returns)

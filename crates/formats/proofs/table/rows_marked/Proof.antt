@@ -22,12 +22,6 @@ loop-holds c = (omega arith, refl)
 row-marked-requires : tie.Need-row-marked-requires Inv-loop μ-loop
 row-marked-requires c κs = search needs
 
-add-i : tie.Need-add-i Inv-loop μ-loop
-add-i c = search needs
-
-loop-less : tie.Need-loop-less Inv-loop μ-loop
-loop-less c = search needs
-
 loop-again : tie.Need-loop-again Inv-loop μ-loop
 loop-again c =
     let l = c .before .before in
@@ -43,4 +37,4 @@ returns c =
 pub rows-marked-spec : {M : Type 1} → statement M
 rows-marked-spec =
     tie.close
-    (tie.spec Inv-loop μ-loop loop-holds row-marked-requires add-i loop-less loop-again returns)
+    (tie.spec Inv-loop μ-loop loop-holds row-marked-requires (λ c. search needs) (λ c. search needs) loop-again returns)

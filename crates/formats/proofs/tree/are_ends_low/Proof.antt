@@ -26,12 +26,6 @@ add-loop c = search needs
 ends-low-at-requires : tie.Need-ends-low-at-requires Inv-loop μ-loop
 ends-low-at-requires c κs = search needs
 
-add-j : tie.Need-add-j Inv-loop μ-loop
-add-j c = search needs
-
-loop-less : tie.Need-loop-less Inv-loop μ-loop
-loop-less c = search needs
-
 loop-again : tie.Need-loop-again Inv-loop μ-loop
 loop-again c =
     let l = c .before .before in
@@ -54,7 +48,7 @@ are-ends-low-spec =
     loop-holds
     add-loop
     ends-low-at-requires
-    add-j
-    loop-less
+    (λ c. search needs)
+    (λ c. search needs)
     loop-again
     returns)

@@ -1,9 +1,8 @@
 -- `degrees` meets its contract. Assumes nothing.
 use mathlib.Core.Path.{_≡_, refl, ap, _∙_}
-use mathlib.Core.Bool.{cond, not}
 use Prim.Native.Nat.{ℕ, _+_, _-_, _≤_, _<_}
 use lib.Dec.{eqb}
-use lib.ListN.{getD, set}
+use lib.ListN.{getD}
 use Rattle.foundations.specs.Lists.{tab}
 use Rattle.model.specs.Tree.{degree}
 use Rattle.formats.specs.TreeItems.{degree-more, degree-low, degree-after, zero-or-one}
@@ -88,12 +87,6 @@ cast-d-2 c = search needs
 array-write-d-2 : tie.Need-array-write-d-2 Inv-loop μ-loop
 array-write-d-2 c = omega (arith, low-b (c .before))
 
-add-j : tie.Need-add-j Inv-loop μ-loop
-add-j c = search needs
-
-loop-less : tie.Need-loop-less Inv-loop μ-loop
-loop-less c = search needs
-
 loop-again : tie.Need-loop-again Inv-loop μ-loop
 loop-again c =
     let b = c .before in
@@ -129,7 +122,7 @@ degrees-spec =
     add-d-2
     cast-d-2
     array-write-d-2
-    add-j
-    loop-less
+    (λ c. search needs)
+    (λ c. search needs)
     loop-again
     returns)

@@ -25,9 +25,6 @@ add-loop c = search needs
 mul-k : tie.Need-mul-k Inv-loop μ-loop
 mul-k c = search needs
 
-add-k : tie.Need-add-k Inv-loop μ-loop
-add-k c = search needs
-
 mul-k-2 : tie.Need-mul-k-2 Inv-loop μ-loop
 mul-k-2 c = search needs
 
@@ -36,12 +33,6 @@ add-k-2 c = search needs
 
 shared-slice-read-k : tie.Need-shared-slice-read-k Inv-loop μ-loop
 shared-slice-read-k c = search needs
-
-add-j : tie.Need-add-j Inv-loop μ-loop
-add-j c = search needs
-
-loop-less : tie.Need-loop-less Inv-loop μ-loop
-loop-less c = search needs
 
 loop-again : tie.Need-loop-again Inv-loop μ-loop
 loop-again c =
@@ -64,11 +55,11 @@ edge-labels-known-spec =
     loop-holds
     add-loop
     mul-k
-    add-k
+    (λ c. search needs)
     mul-k-2
     add-k-2
     shared-slice-read-k
-    add-j
-    loop-less
+    (λ c. search needs)
+    (λ c. search needs)
     loop-again
     returns)

@@ -60,12 +60,6 @@ array-read-y c = low-b c
 merged-requires : tie.Need-merged-requires Inv-loop μ-loop
 merged-requires c κs = search needs
 
-add-j : tie.Need-add-j Inv-loop μ-loop
-add-j c = search needs
-
-loop-less : tie.Need-loop-less Inv-loop μ-loop
-loop-less c = search needs
-
 loop-again : tie.Need-loop-again Inv-loop μ-loop
 loop-again c =
     let l = c .before .before .before .before in
@@ -101,7 +95,7 @@ is-acyclic-spec =
     array-read-x
     array-read-y
     merged-requires
-    add-j
-    loop-less
+    (λ c. search needs)
+    (λ c. search needs)
     loop-again
     returns)

@@ -25,12 +25,6 @@ cast-r c = search needs
 array-write-r : tie.Need-array-write-r Inv-loop μ-loop
 array-write-r c = search needs
 
-add-x : tie.Need-add-x Inv-loop μ-loop
-add-x c = search needs
-
-loop-less : tie.Need-loop-less Inv-loop μ-loop
-loop-less c = search needs
-
 loop-again : tie.Need-loop-again Inv-loop μ-loop
 loop-again c =
     let l = c .before .loop in
@@ -44,4 +38,4 @@ returns c =
 pub own-components-spec : {M : Type 1} → statement M
 own-components-spec =
     tie.close
-    (tie.spec Inv-loop μ-loop loop-holds cast-r array-write-r add-x loop-less loop-again returns)
+    (tie.spec Inv-loop μ-loop loop-holds cast-r array-write-r (λ c. search needs) (λ c. search needs) loop-again returns)

@@ -1,7 +1,5 @@
 -- `second` meets its contract. Assumes nothing.
 use borrow.Author.Tests.{eq-eqb, ne-eqb}
-use borrow.Author.Needs.{needs}
-use native.Mathlib.Omega.{arith}
 use Rattle.formats.proofs.tree.second.Statement.{statement}
 use Rattle.formats.proofs.tree.second.Tie as tie
 

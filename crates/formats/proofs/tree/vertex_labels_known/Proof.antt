@@ -22,17 +22,8 @@ loop-holds c = (omega arith, refl)
 mul-k : tie.Need-mul-k Inv-loop μ-loop
 mul-k c = search needs
 
-add-k : tie.Need-add-k Inv-loop μ-loop
-add-k c = search needs
-
 shared-slice-read-k : tie.Need-shared-slice-read-k Inv-loop μ-loop
 shared-slice-read-k c = search needs
-
-add-v : tie.Need-add-v Inv-loop μ-loop
-add-v c = search needs
-
-loop-less : tie.Need-loop-less Inv-loop μ-loop
-loop-less c = search needs
 
 loop-again : tie.Need-loop-again Inv-loop μ-loop
 loop-again c =
@@ -54,9 +45,9 @@ vertex-labels-known-spec =
     μ-loop
     loop-holds
     mul-k
-    add-k
+    (λ c. search needs)
     shared-slice-read-k
-    add-v
-    loop-less
+    (λ c. search needs)
+    (λ c. search needs)
     loop-again
     returns)

@@ -27,12 +27,6 @@ add-is-vertex c = search needs
 is-vertex-requires : tie.Need-is-vertex-requires Inv-loop μ-loop
 is-vertex-requires c κs = search needs
 
-add-v : tie.Need-add-v Inv-loop μ-loop
-add-v c = search needs
-
-loop-less : tie.Need-loop-less Inv-loop μ-loop
-loop-less c = search needs
-
 loop-again : tie.Need-loop-again Inv-loop μ-loop
 loop-again c =
     let l = c .before .before in
@@ -53,7 +47,7 @@ vertices-marked-spec =
     mul-is-vertex
     add-is-vertex
     is-vertex-requires
-    add-v
-    loop-less
+    (λ c. search needs)
+    (λ c. search needs)
     loop-again
     returns)

@@ -33,12 +33,6 @@ shared-slice-copy-out-is-forbidden c = search needs
 is-forbidden-requires : tie.Need-is-forbidden-requires Inv-loop μ-loop
 is-forbidden-requires c κs = search needs
 
-add-k : tie.Need-add-k Inv-loop μ-loop
-add-k c = search needs
-
-loop-less : tie.Need-loop-less Inv-loop μ-loop
-loop-less c = search needs
-
 loop-again : tie.Need-loop-again Inv-loop μ-loop
 loop-again c =
     let l = c .before .before .before in
@@ -64,7 +58,7 @@ all-forbidden-spec =
     mul-is-forbidden
     shared-slice-copy-out-is-forbidden
     is-forbidden-requires
-    add-k
-    loop-less
+    (λ c. search needs)
+    (λ c. search needs)
     loop-again
     returns)

@@ -3,59 +3,56 @@ use mathlib.Core.Path.{_≡_}
 use Prim.Native.Nat.{_*_, _-_, _<_, min}
 use native.Mathlib.Omega.{arith}
 use borrow.Author.Needs.{needs}
+use Rattle.model.specs.Limits.{vertexLimit, subproblemLimit}
 use Rattle.model.specs.Jobs.{workOk}
 use Rattle.model.specs.Order.{width}
-use Rattle.job_items.specs.Work.{scanned-accepted, scanned-sound, row-low, row-at, row-more, row-first, row-next, subproblems-few, work-none, work-end}
+use Rattle.plan.specs.Numbers.{ready-sound, number-few}
+use Rattle.job_items.specs.Work.{row-low, row-here, row-more, row-first, row-next, work-none, work-end}
 use Rattle.job_items.proofs.work.work_ok.Statement.{statement}
 use Rattle.job_items.proofs.work.work_ok.Tie as tie
 
 abbrev Inv-loop : tie.InvT-loop
-Inv-loop table recorded found order starts work position m width₀ ok₀ i₀ base₀ ok i base = (base ≡ i * width found) × (ok ≡ workOk table recorded found work (min base position))
+Inv-loop table recorded found plan work position width₀ ok₀ i₀ base₀ ok i base = (base ≡ i * width found) × (ok ≡ workOk table recorded found work (min base position))
 
 abbrev μ-loop : tie.MeasureT-loop
-μ-loop table recorded found order starts work position m width ok₀ i₀ base₀ ok i base = position - base
+μ-loop table recorded found plan work position width ok₀ i₀ base₀ ok i base = position - base
 
 -- inside the loop: the row is one of at most 64, and begins before all subproblems end
-low : (c : tie.In-loop Inv-loop μ-loop) → c .before .loop .i < 64
+low : (c : tie.In-loop Inv-loop μ-loop) → c .before .loop .i < vertexLimit
 low c =
     let l = c .before in
-    let s = l .before .before .before .before .before .before in
+    let s = l .before .before .before .before .before in
     row-low (s .pre .0) (l .loop .i) (l .loop .base) (s .args .position) (l .loop .inv .0) (c .loop-test .taken) (s .pre .1 .1) .1
 
-below : (c : tie.In-loop Inv-loop μ-loop) → c .before .loop .base < 12160
+below : (c : tie.In-loop Inv-loop μ-loop) → c .before .loop .base < subproblemLimit
 below c =
-    let l = c .before in
-    let s = l .before .before .before .before .before .before in
-    let k = subproblems-few (s .pre .0) in
+    let s = c .before .before .before .before .before .before in
+    let k = number-few (s .pre .0) in
     omega (arith, c .loop-test .taken, s .pre .1 .1)
 
-vertex-count-requires : tie.Need-vertex-count-requires Inv-loop μ-loop
-vertex-count-requires c κs =
-    let e = scanned-accepted (c .before .before .before .pre .0) .found .ends in
-    record { some = e .some; few = e .few; long = e .long }
-
 width-of-requires : tie.Need-width-of-requires Inv-loop μ-loop
-width-of-requires c κs = scanned-sound (c .before .before .before .before .pre .0)
+width-of-requires c κs = ready-sound (c .before .before .before .pre .0)
 
 loop-holds : tie.Need-loop-holds Inv-loop μ-loop
 loop-holds c = (row-first _, work-none _ _ _ _ _)
 
-sub-smaller : tie.Need-sub-smaller Inv-loop μ-loop
-sub-smaller c = search needs
+sub-lesser : tie.Need-sub-lesser Inv-loop μ-loop
+sub-lesser c = search needs
 
-smaller-requires : tie.Need-smaller-requires Inv-loop μ-loop
-smaller-requires c κs = search needs
+lesser-requires : tie.Need-lesser-requires Inv-loop μ-loop
+lesser-requires c κs = search needs
 
-element-copy-out-row-ok : tie.Need-element-copy-out-row-ok Inv-loop μ-loop
-element-copy-out-row-ok c = omega (arith, low (c .before))
+in-order-requires : tie.Need-in-order-requires Inv-loop μ-loop
+in-order-requires c κs = low (c .before)
 
 row-ok-requires : tie.Need-row-ok-requires Inv-loop μ-loop
 row-ok-requires c κs =
     let t = c .before .before in
     let l = t .before in
     let w = l .before in
-    let s = w .before .before .before .before .before in
-    row-at (s .pre .0) (s .args .work .now) (l .loop .i) (l .loop .base) (w .before .vertex-count .result) (c .before .smaller .result) (s .args .position) (s .pre .1 .0) (l .loop .inv .0) (t .loop-test .taken) (s .pre .1 .1) (w .before .vertex-count .ensures) (rw (w .width-of .ensures .0) at (c .before .smaller .ensures))
+    let s = w .before .before .before .before in
+    let h = row-here (s .pre .0) (l .loop .i) (l .loop .base) (s .args .position) (l .loop .inv .0) (t .loop-test .taken) (s .pre .1 .1) (s .args .work .now) (c .before .lesser .result) (s .pre .1 .0) (rw (w .width-of .ensures .0) at (c .before .lesser .ensures)) in
+    (s .pre .0, (rw (c .in-order .ensures) (h .0), h .1, h .2))
 
 add-i : tie.Need-add-i Inv-loop μ-loop
 add-i c = omega (arith, low (c .before .before .before))
@@ -63,8 +60,7 @@ add-i c = omega (arith, low (c .before .before .before))
 add-base : tie.Need-add-base Inv-loop μ-loop
 add-base c =
     let t = c .before .before .before in
-    let w = t .before .before in
-    omega (arith, w .width-of .ensures .2, below t)
+    omega (arith, t .before .before .width-of .ensures .2, below t)
 
 loop-less : tie.Need-loop-less Inv-loop μ-loop
 loop-less c = let t = c .before .before .before in omega (arith, t .before .before .width-of .ensures .1, t .loop-test .taken)
@@ -74,14 +70,14 @@ loop-again c =
     let t = c .before .before .before in
     let l = t .before in
     let w = l .before in
-    let s = w .before .before .before .before .before in
+    let s = w .before .before .before .before in
     let e = w .width-of .ensures .0 in
-    (rw e (row-next _ _ _ (l .loop .inv .0)), rw e (row-more (s .pre .0) (s .args .work .now) (l .loop .i) (l .loop .base) (c .before .before .smaller .result) (s .args .position) (l .loop .ok) (c .row-ok .result) (l .loop .inv .0) (t .loop-test .taken) (s .pre .1 .1) (rw e at (c .before .before .smaller .ensures)) (l .loop .inv .1) (c .row-ok .ensures)))
+    (rw e (row-next _ _ _ (l .loop .inv .0)), rw e (row-more (s .pre .0) (l .loop .i) (l .loop .base) (s .args .position) (l .loop .inv .0) (t .loop-test .taken) (s .pre .1 .1) (s .args .work .now) (c .before .before .lesser .result) (l .loop .ok) (c .row-ok .result) (rw e at (c .before .before .lesser .ensures)) (l .loop .inv .1) (rw (c .before .in-order .ensures) at (c .row-ok .ensures))))
 
 returns : tie.Need-returns Inv-loop μ-loop
 returns c =
     let l = c .before in
-    let a = l .before .before .before .before .before .before .args in
+    let a = l .before .before .before .before .before .args in
     work-end (a .table .now) (a .recorded .now) (a .found .now) (a .work .now) (l .loop .base) (a .position) (l .loop .ok) (omega arith) (l .loop .inv .1)
 
 pub work-ok-spec : {M : Type 1} → statement M
@@ -90,12 +86,11 @@ work-ok-spec =
     (tie.spec
     Inv-loop
     μ-loop
-    vertex-count-requires
     width-of-requires
     loop-holds
-    sub-smaller
-    smaller-requires
-    element-copy-out-row-ok
+    sub-lesser
+    lesser-requires
+    in-order-requires
     row-ok-requires
     add-i
     add-base

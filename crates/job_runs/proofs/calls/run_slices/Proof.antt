@@ -18,23 +18,14 @@ loop-holds c = search needs
 advance-twice-requires : tie.Need-advance-twice-requires Inv-loop μ-loop
 advance-twice-requires c κs = search needs
 
-same-length : tie.Need-same-length Inv-loop μ-loop
-same-length c = search needs
-
 returns : tie.Need-returns Inv-loop μ-loop
 returns c = search needs
 
 add-advances : tie.Need-add-advances Inv-loop μ-loop
 add-advances c = search needs
 
-loop-less : tie.Need-loop-less Inv-loop μ-loop
-loop-less c = search needs
-
 loop-again : tie.Need-loop-again Inv-loop μ-loop
 loop-again c = search needs
-
-same-length-2 : tie.Need-same-length-2 Inv-loop μ-loop
-same-length-2 c = search needs
 
 returns-2 : tie.Need-returns-2 Inv-loop μ-loop
 returns-2 c = search needs
@@ -47,10 +38,10 @@ run-slices-spec =
     μ-loop
     loop-holds
     advance-twice-requires
-    same-length
+    (λ c. search needs)
     returns
     add-advances
-    loop-less
+    (λ c. search needs)
     loop-again
-    same-length-2
+    (λ c. search needs)
     returns-2)

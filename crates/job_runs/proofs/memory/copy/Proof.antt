@@ -30,17 +30,8 @@ mul-t11 c = search needs
 slice-set-from-kept : tie.Need-slice-set-from-kept Inv-loop μ-loop
 slice-set-from-kept c = search needs
 
-add-i : tie.Need-add-i Inv-loop μ-loop
-add-i c = search needs
-
-loop-less : tie.Need-loop-less Inv-loop μ-loop
-loop-less c = search needs
-
 loop-again : tie.Need-loop-again Inv-loop μ-loop
 loop-again c = search needs
-
-same-length : tie.Need-same-length Inv-loop μ-loop
-same-length c = search needs
 
 returns : tie.Need-returns Inv-loop μ-loop
 returns c = search needs
@@ -57,8 +48,8 @@ copy-spec =
     shared-slice-copy-out-kept
     mul-t11
     slice-set-from-kept
-    add-i
-    loop-less
+    (λ c. search needs)
+    (λ c. search needs)
     loop-again
-    same-length
+    (λ c. search needs)
     returns)

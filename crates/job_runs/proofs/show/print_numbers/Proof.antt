@@ -28,12 +28,6 @@ shared-slice-copy-out-print-signed c = search needs
 print-signed-requires : tie.Need-print-signed-requires Inv-loop μ-loop
 print-signed-requires c κs = search needs
 
-add-i : tie.Need-add-i Inv-loop μ-loop
-add-i c = search needs
-
-loop-less : tie.Need-loop-less Inv-loop μ-loop
-loop-less c = search needs
-
 loop-again : tie.Need-loop-again Inv-loop μ-loop
 loop-again c = search needs
 
@@ -58,8 +52,8 @@ print-numbers-spec =
     mul-print-signed
     shared-slice-copy-out-print-signed
     print-signed-requires
-    add-i
-    loop-less
+    (λ c. search needs)
+    (λ c. search needs)
     loop-again
     slice-aggregate-print-text
     print-text-requires

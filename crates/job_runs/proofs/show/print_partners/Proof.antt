@@ -22,12 +22,6 @@ shared-slice-read-print-partner c = search needs
 print-partner-requires : tie.Need-print-partner-requires Inv-loop μ-loop
 print-partner-requires c κs = search needs
 
-add-u : tie.Need-add-u Inv-loop μ-loop
-add-u c = search needs
-
-loop-less : tie.Need-loop-less Inv-loop μ-loop
-loop-less c = search needs
-
 loop-again : tie.Need-loop-again Inv-loop μ-loop
 loop-again c = search needs
 
@@ -44,7 +38,7 @@ print-partners-spec =
     loop-holds
     shared-slice-read-print-partner
     print-partner-requires
-    add-u
-    loop-less
+    (λ c. search needs)
+    (λ c. search needs)
     loop-again
     returns)

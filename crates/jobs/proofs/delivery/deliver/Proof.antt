@@ -1,13 +1,15 @@
 -- `deliver` reads out from the pair with the largest number and weighs what it wrote, or clears. Assumes nothing.
 use mathlib.Core.Path.{ap, _∙_}
-use mathlib.Core.List.{List, _++_}
+use mathlib.Core.List.{_++_}
 use Prim.Native.Nat.{ℕ}
 use lib.ListN.{replicate, drop}
 use Rattle.foundations.specs.Machine.{back}
+use Rattle.model.specs.Limits.{noVertex}
 use Rattle.trees.specs.Accepted.{whole}
-use Rattle.formats.specs.Inputs.{input-accepted}
+use Rattle.plan.specs.Numbers.{ready-accepted}
+use Rattle.one_call.specs.Assemble.{all-at}
 use Rattle.one_call.specs.Top.{top-pair}
-use Rattle.jobs.specs.Delivery.{known-all, delivered-empty, read-legal, delivered-read}
+use Rattle.jobs.specs.Delivery.{delivered-empty, read-legal, delivered-read}
 use borrow.Author.Needs.{needs}
 use Rattle.jobs.proofs.delivery.deliver.Statement.{statement}
 use Rattle.jobs.proofs.delivery.deliver.Tie as tie
@@ -15,21 +17,18 @@ use Rattle.jobs.proofs.delivery.deliver.Tie as tie
 largest-requires : tie.Need-largest-requires
 largest-requires c κs =
     let s = c .before .before .before .before in
-    known-all (s .pre .0) (s .pre .1 .0)
+    all-at _ _ _ (s .pre .0 .passes) (s .pre .0) (s .pre .1 .0)
 
 vertex-count-requires : tie.Need-vertex-count-requires
-vertex-count-requires c κs = whole (input-accepted _ _ _ (c .before .before .before .before .before .before .before .before .pre .0 .passes) .recorded .ends)
+vertex-count-requires c κs = whole (ready-accepted (c .before .before .before .before .before .before .before .before .pre .0) .recorded .ends)
 
 clear-requires : tie.Need-clear-requires
 clear-requires c κs = search needs
 
-same-length : tie.Need-same-length
-same-length c = search needs
-
 returns : tie.Need-returns
 returns c =
     let s = c .before .before .before .before .before .before .before .before .before .before .before .before in
-    delivered-empty _ _ _ (s .pre .0 .passes) _ _ _ _ _ _ (c .before .before .before .before .before .before .before .largest .ensures) (c .before .before .before .before .before .if1 .taken) (c .before .before .clear .ensures ∙ ap (λ (k : ℕ). replicate k 255 ++ drop k (s .args .mapping .now)) (c .before .before .before .vertex-count .ensures))
+    delivered-empty _ _ _ (s .pre .0 .passes) _ _ _ _ _ _ (c .before .before .before .before .before .before .before .largest .ensures) (c .before .before .before .before .before .if1 .taken) (c .before .before .clear .ensures ∙ ap (λ (k : ℕ). replicate k noVertex ++ drop k (s .args .mapping .now)) (c .before .before .before .vertex-count .ensures))
 
 read-out-requires : tie.Need-read-out-requires
 read-out-requires c κs =
@@ -44,10 +43,7 @@ weigh-requires c κs =
     let z = c .before .before .before .before .before .if1 .left in
     let l = top-pair _ _ _ _ _ _ _ t z in
     let R = c .before .before .before .read-out .ensures in
-    (K .passes, (K .weights, ((K .found .neighbours, K .found .edges), (rw (R .size) (s .pre .1 .1 .1), read-legal _ _ _ (K .passes) _ (s .pre .1 .1 .0) _ _ _ _ _ t z (l .0) (l .1) R))))
-
-same-length-2 : tie.Need-same-length-2
-same-length-2 c = search needs
+    (K, (rw (R .size) (s .pre .1 .1 .1), read-legal _ _ _ (K .passes) _ (s .pre .1 .1 .0) _ _ _ _ _ t z (l .0) (l .1) R))
 
 returns-2 : tie.Need-returns-2
 returns-2 c =
@@ -65,9 +61,9 @@ deliver-spec =
     largest-requires
     vertex-count-requires
     clear-requires
-    same-length
+    (λ c. search needs)
     returns
     read-out-requires
     weigh-requires
-    same-length-2
+    (λ c. search needs)
     returns-2)

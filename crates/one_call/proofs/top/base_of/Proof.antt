@@ -1,6 +1,7 @@
 -- `base_of` meets its contract. Assumes nothing.
-use Prim.Native.Nat.{_*_, _≤_}
 use native.Mathlib.Omega.{arith}
+use Rattle.model.specs.Limits.{vertexLimit, widthLimit}
+use Prim.Native.Nat.{_*_, _≤_}
 use native.Mathlib.Nat.{mul-le-mul}
 use borrow.Author.Needs.{needs}
 use Rattle.one_call.proofs.top.base_of.Statement.{statement}
@@ -8,8 +9,7 @@ use Rattle.one_call.proofs.top.base_of.Tie as tie
 
 mul-result : tie.Need-mul-result
 mul-result c =
-    let p : c .args .place ≤ 255 = omega (arith, c .fits) in
-    let h : c .args .place * c .args .width ≤ 255 * 190 = mul-le-mul p (c .pre) in
+    let h : c .args .place * c .args .width ≤ vertexLimit * widthLimit = mul-le-mul (c .pre .0) (c .pre .1) in
     omega arith
 
 returns : tie.Need-returns

@@ -1,4 +1,4 @@
--- `top_of_row` compares the values of one recorded vertex. The invariant: those below v are compared. Assumes nothing.
+-- `top_of_row` meets its contract. Assumes nothing.
 use mathlib.Core.Path.{_≡_, ap, _∙_, subst}
 use Prim.Native.Nat.{ℕ, _+_, _-_, _≤_, _<_}
 use lib.ListN.{getD}
@@ -12,16 +12,12 @@ use borrow.Author.Needs.{needs}
 use native.Mathlib.Omega.{arith}
 use Rattle.one_call.proofs.top.top_of_row.Statement.{statement}
 use Rattle.one_call.proofs.top.top_of_row.Tie as tie
-use Rattle.one_call.proofs.top.top_of_row.Reads as reads
-use Rattle.one_call.proofs.top.top_of_row.Lts as lts
-use Rattle.one_call.proofs.top.above_zero.Reads as above-zero-reads
-use Rattle.one_call.proofs.top.raised.Reads as raised-reads
 
 abbrev Inv-loop : tie.InvT-loop
-Inv-loop work starts recorded found base m u top₀ v₀ top v = (v ≤ m) × TopOf recorded found work u v (top .weight) (top .u) (top .v)
+Inv-loop work plan recorded found base m u top₀ v₀ top v = (v ≤ m) × TopOf recorded found work u v (top .weight) (top .u) (top .v)
 
 abbrev μ-loop : tie.MeasureT-loop
-μ-loop work starts recorded found base m u top₀ v₀ top v = m - v
+μ-loop work plan recorded found base m u top₀ v₀ top v = m - v
 
 loop-holds : tie.Need-loop-holds Inv-loop μ-loop
 loop-holds c = (omega arith, c .before .before .pre .1)
@@ -29,23 +25,32 @@ loop-holds c = (omega arith, c .before .before .pre .1)
 cast-loop : tie.Need-cast-loop Inv-loop μ-loop
 cast-loop c = search needs
 
-cast-above-zero : tie.Need-cast-above-zero Inv-loop μ-loop
-cast-above-zero c = search needs
-
-mul-above-zero : tie.Need-mul-above-zero Inv-loop μ-loop
-mul-above-zero c = search needs
-
-element-copy-out-above-zero : tie.Need-element-copy-out-above-zero Inv-loop μ-loop
-element-copy-out-above-zero c = let a = c .before .before .before .before .pre .0 .few in omega arith
+offset-requires : tie.Need-offset-requires Inv-loop μ-loop
+offset-requires c κs = let a = c .before .before .before .before .pre .0 .few in omega arith
 
 add-above-zero : tie.Need-add-above-zero Inv-loop μ-loop
-add-above-zero c = let p = c .before .before .before .before .before .pre .0 in omega (arith, p .small, p .near (c .before .before .loop .v) (c .before .loop-test .taken), p .offsets (c .before .before .loop .v) (c .before .loop-test .taken))
+add-above-zero c =
+    let s = c .before .before .before .before .before in
+    let p = s .pre .0 in
+    let v = c .before .before .loop .v in
+    let h = c .before .loop-test .taken in
+    omega (arith, p .small, p .narrow v h, p .offsets v h, c .offset .ensures)
 
-mul-above-zero-2 : tie.Need-mul-above-zero-2 Inv-loop μ-loop
-mul-above-zero-2 c = let p = c .before .before .before .before .before .pre .0 in omega (arith, p .small, p .near (c .before .before .loop .v) (c .before .loop-test .taken), p .offsets (c .before .before .loop .v) (c .before .loop-test .taken))
+mul-above-zero : tie.Need-mul-above-zero Inv-loop μ-loop
+mul-above-zero c =
+    let s = c .before .before .before .before .before in
+    let p = s .pre .0 in
+    let v = c .before .before .loop .v in
+    let h = c .before .loop-test .taken in
+    omega (arith, p .small, p .narrow v h, p .offsets v h, c .offset .ensures)
 
 shared-slice-copy-out-above-zero : tie.Need-shared-slice-copy-out-above-zero Inv-loop μ-loop
-shared-slice-copy-out-above-zero c = let p = c .before .before .before .before .before .pre .0 in omega (arith, p .lent (c .before .before .loop .v) (c .before .loop-test .taken), p .offsets (c .before .before .loop .v) (c .before .loop-test .taken))
+shared-slice-copy-out-above-zero c =
+    let s = c .before .before .before .before .before in
+    let p = s .pre .0 in
+    let v = c .before .before .loop .v in
+    let h = c .before .loop-test .taken in
+    omega (arith, p .lent v h, p .offsets v h, c .offset .ensures)
 
 above-zero-requires : tie.Need-above-zero-requires Inv-loop μ-loop
 above-zero-requires c κs = search needs
@@ -56,24 +61,19 @@ raised-requires c κs = search needs
 add-v : tie.Need-add-v Inv-loop μ-loop
 add-v c = let p = c .before .before .before .before .before .before .before .before .pre .0 .few in omega arith
 
-loop-less : tie.Need-loop-less Inv-loop μ-loop
-loop-less c = search needs
-
 loop-again : tie.Need-loop-again Inv-loop μ-loop
 loop-again c =
-    let l = c .before .before .before .before .before in
+    let at-start = c .before .before .before in
+    let l = at-start .before .before in
     let s = l .before .before .before in
     let a = s .args in
     let p = s .pre .0 in
     let v = l .loop .v in
-    let h : v < a .m = c .before .before .before .before .loop-test .taken in
+    let h : v < a .m = at-start .before .loop-test .taken in
     let x = c .before .above-zero .ensures in
-    let z = getD (a .work .now) (a .base + getD (a .starts .now) v 0) (pos 0) in
-    let q : toZ w32 (ofZ w32 z) ≡ z = back {z = z} (c .before .before .above-zero-arg2 .given) in (
-      omega arith,
-      top-more (a .recorded .now) (a .found .now) (a .work .now) (a .u) v _ _ _ (c .before .above-zero .result) _ _ _ (l .loop .inv .1) (p .vertex) (subst (λ (k : ℕ). v < k) (p .counted) h)
-          (x .0 ∙ ap (λ (y : ℤ). up y) q ∙ ap (λ (k : ℕ). up (getD (a .work .now) k (pos 0))) (row-number p v h)) (x .1) (c .raised .ensures),
-    )
+    let z = getD (a .work .now) (a .base + at-start .offset .result) (pos 0) in
+    let q : toZ w32 (ofZ w32 z) ≡ z = back {z = z} (c .before .before .above-zero-arg .given) in
+    (omega arith, top-more (a .recorded .now) (a .found .now) (a .work .now) (a .u) v _ _ _ (c .before .above-zero .result) _ _ _ (l .loop .inv .1) (p .vertex) (subst (λ (k : ℕ). v < k) (p .counted) h) (x .0 ∙ ap (λ (y : ℤ). up y) q ∙ ap (λ (k : ℕ). up (getD (a .work .now) k (pos 0))) (ap (λ (k : ℕ). a .base + k) (at-start .offset .ensures) ∙ row-number p v h)) (x .1) (c .raised .ensures))
 
 returns : tie.Need-returns Inv-loop μ-loop
 returns c =
@@ -91,15 +91,13 @@ top-of-row-spec =
     μ-loop
     loop-holds
     cast-loop
-    cast-above-zero
-    mul-above-zero
-    element-copy-out-above-zero
+    offset-requires
     add-above-zero
-    mul-above-zero-2
+    mul-above-zero
     shared-slice-copy-out-above-zero
     above-zero-requires
     raised-requires
     add-v
-    loop-less
+    (λ c. search needs)
     loop-again
     returns)

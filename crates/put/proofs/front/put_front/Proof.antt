@@ -11,11 +11,8 @@ put-head-requires c κs = search needs
 put-partners-requires : tie.Need-put-partners-requires
 put-partners-requires c κs = search needs
 
-same-length : tie.Need-same-length
-same-length c = search needs
-
 returns : tie.Need-returns
 returns c = front-put (toZ-ofZ (c .before .before .before .before .before .before .before .before .before .fits .w)) (c .before .before .before .before .before .before .put-head .ensures) (c .before .before .put-partners .ensures)
 
 pub put-front-spec : {M : Type 1} → statement M
-put-front-spec = tie.close (tie.spec put-head-requires put-partners-requires same-length returns)
+put-front-spec = tie.close (tie.spec put-head-requires put-partners-requires (λ c. search needs) returns)

@@ -8,17 +8,11 @@ use Rattle.put.proofs.front.put_partner.Tie as tie
 put-mark-requires : tie.Need-put-mark-requires
 put-mark-requires c κs = search needs
 
-add-d : tie.Need-add-d
-add-d c = search needs
-
 slice-write-d : tie.Need-slice-write-d
 slice-write-d c = search needs
-
-same-length : tie.Need-same-length
-same-length c = search needs
 
 returns : tie.Need-returns
 returns c = let e = c .before .before .put-mark .ensures .kept .size in partner-put (c .before .before .put-mark .ensures) (byte-put _ _ _ (omega arith))
 
 pub put-partner-spec : {M : Type 1} → statement M
-put-partner-spec = tie.close (tie.spec put-mark-requires add-d slice-write-d same-length returns)
+put-partner-spec = tie.close (tie.spec put-mark-requires (λ c. search needs) slice-write-d (λ c. search needs) returns)

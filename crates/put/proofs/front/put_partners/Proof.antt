@@ -28,12 +28,6 @@ element-copy-out-put-partner c = search needs
 put-partner-requires : tie.Need-put-partner-requires Inv-loop μ-loop
 put-partner-requires c κs = omega (arith, c .before .before .before .loop .inv .1 .kept .size)
 
-add-i : tie.Need-add-i Inv-loop μ-loop
-add-i c = search needs
-
-loop-less : tie.Need-loop-less Inv-loop μ-loop
-loop-less c = search needs
-
 loop-again : tie.Need-loop-again Inv-loop μ-loop
 loop-again c = (omega arith, partners-more (c .before .before .before .before .before .before .loop .inv .1) (c .before .before .put-partner .ensures))
 
@@ -54,8 +48,8 @@ put-partners-spec =
     add-put-partner
     element-copy-out-put-partner
     put-partner-requires
-    add-i
-    loop-less
+    (λ c. search needs)
+    (λ c. search needs)
     loop-again
     same-length
     returns)

@@ -6,8 +6,10 @@ use Prim.Native.Nat.{ℕ, _+_, _*_, _-_, _≤_, _<_}
 use mathlib.Core.Path.{_≡_, refl}
 use mathlib.Core.List.{List}
 use lib.ListN.{set}
+use Rattle.plan.specs.Pairs.{pair-low}
+use Rattle.solver.specs.Mates.{sub-pair}
 use Rattle.readout.specs.Read.{Room, Reading}
-use Rattle.readout.specs.CycleLaws.{depth-some, branch-none, pair-start, pair-done, branch-room, branch-subproblem, branch-more}
+use Rattle.readout.specs.CycleLaws.{branch-pairs, depth-some, branch-none, pair-start, pair-done, branch-room, branch-subproblem, branch-more}
 use borrow.Fn.Kinds.{In}
 use borrow.Fn.PlainCycle.{Measures, is, falls, and}
 use Rattle.readout.proofs.cycle.list_branch.Reads as list-branch
@@ -16,30 +18,32 @@ use Rattle.readout.proofs.cycle.+list_branch+list_pair.Lts-list_branch 
 use Rattle.readout.proofs.cycle.list_pair.Reads as list-pair
 use Rattle.readout.proofs.cycle.list_pair.Kinds as list-pair-kinds
 use Rattle.readout.proofs.cycle.+list_branch+list_pair.Lts-list_pair as list-pair-lts
-use Rattle.readout.proofs.cycle.branch_pairs.Reads as branch-pairs-reads
+use Rattle.plan.proofs.child.Reads as child-reads
+use Rattle.plan.proofs.child_count.Reads as child-count-reads
+use Rattle.solver.proofs.subproblem.choice.Reads as choice-reads
 use Rattle.readout.proofs.cycle.+list_branch+list_pair.{statement}
 use Rattle.readout.proofs.cycle.+list_branch+list_pair.Tie.{close}
 
-abbrev μ-list-branch : Measures 12 list-branch-kinds.ps ℕ
-μ-list-branch κs a = 2 * a .1 .1 .1 .1 .1 .1 .1 .1 .1 .1 .1 .1 .1 .1 .0 + 1
+abbrev μ-list-branch : Measures 6 list-branch-kinds.ps ℕ
+μ-list-branch κs a = 2 * a .1 .1 .1 .1 .1 .1 .1 .1 .0 + 1
 
-abbrev μ-list-pair : Measures 12 list-pair-kinds.ps ℕ
-μ-list-pair κs a = 2 * a .1 .1 .1 .1 .1 .1 .1 .1 .1 .1 .1 .1 .1 .1 .0
+abbrev μ-list-pair : Measures 6 list-pair-kinds.ps ℕ
+μ-list-pair κs a = 2 * a .1 .1 .1 .1 .1 .1 .1 .1 .0
 
-abbrev list-branch-at : ℕ → In 12 list-branch-kinds.ps
+abbrev list-branch-at : ℕ → In 6 list-branch-kinds.ps
 list-branch-at t =
-    and 12 list-branch-kinds.ps (is 12 list-branch-kinds.ps μ-list-branch t) list-branch.Pre
+    and 6 list-branch-kinds.ps (is 6 list-branch-kinds.ps μ-list-branch t) list-branch.Pre
 
-abbrev list-branch-below : ℕ → In 12 list-branch-kinds.ps
+abbrev list-branch-below : ℕ → In 6 list-branch-kinds.ps
 list-branch-below t =
-    and 12 list-branch-kinds.ps (falls 12 list-branch-kinds.ps _<_ μ-list-branch t) list-branch.Pre
+    and 6 list-branch-kinds.ps (falls 6 list-branch-kinds.ps _<_ μ-list-branch t) list-branch.Pre
 
-abbrev list-pair-at : ℕ → In 12 list-pair-kinds.ps
-list-pair-at t = and 12 list-pair-kinds.ps (is 12 list-pair-kinds.ps μ-list-pair t) list-pair.Pre
+abbrev list-pair-at : ℕ → In 6 list-pair-kinds.ps
+list-pair-at t = and 6 list-pair-kinds.ps (is 6 list-pair-kinds.ps μ-list-pair t) list-pair.Pre
 
-abbrev list-pair-below : ℕ → In 12 list-pair-kinds.ps
+abbrev list-pair-below : ℕ → In 6 list-pair-kinds.ps
 list-pair-below t =
-    and 12 list-pair-kinds.ps (falls 12 list-pair-kinds.ps _<_ μ-list-pair t) list-pair.Pre
+    and 6 list-pair-kinds.ps (falls 6 list-pair-kinds.ps _<_ μ-list-pair t) list-pair.Pre
 
 list-branch-list-pair-requires : (t : ℕ) → list-branch-lts.Need-list-pair-requires (
   list-pair-below t,
@@ -72,126 +76,115 @@ list-branch-returns-2 t c =
     branch-none _ _ _ _ (s .pre .1 .0 .passes) (s .pre .1 .1 .1 .1) (c .if1 .left)
 
 abbrev list-pair-Inv-loop : list-pair-lts.InvT-loop
-list-pair-Inv-loop table recorded found weights rnear rlabels fnear flabels place starts work u v s depth mapping₀ n kids mates i₀ mapping i =
-    (i ≤ n) × ((p : List ℕ) → mapping₀ ≡ set p u v → Room recorded u depth p → Reading table recorded found work u v mates p i mapping)
+list-pair-Inv-loop table recorded found plan work u v s depth mapping₀ mates n i₀ mapping i =
+    (i ≤ n) × (n ≤ 8) × ((p : List ℕ) → mapping₀ ≡ set p u v → Room recorded u depth p → Reading table recorded found work u v mates p i mapping)
 
 abbrev list-pair-μ-loop : list-pair-lts.MeasureT-loop
-list-pair-μ-loop table recorded found weights rnear rlabels fnear flabels place starts work u v s depth mapping₀ n kids mates i₀ mapping i =
-    n - i
+list-pair-μ-loop table recorded found plan work u v s depth mapping₀ mates n i₀ mapping i = n - i
 
-list-pair-slice-write-mapping : (t : ℕ) → list-pair-lts.Need-slice-write-mapping (
-  branch-pairs-reads.Asked,
-  branch-pairs-reads.Learnt,
+-- what `list_pair` knows of the functions that it calls
+abbrev called : ℕ → list-pair-lts.Claims
+called t = (
+  choice-reads.Asked,
+  choice-reads.Learnt,
+  child-count-reads.Asked,
+  child-count-reads.Learnt,
+  child-reads.Asked,
+  child-reads.Learnt,
   list-branch-below t,
   list-branch.Post,
-) (list-pair-at t) list-pair.Post list-pair-Inv-loop list-pair-μ-loop
+)
+
+list-pair-slice-write-mapping : (t : ℕ) → list-pair-lts.Need-slice-write-mapping (called t) (list-pair-at t) list-pair.Post list-pair-Inv-loop list-pair-μ-loop
 list-pair-slice-write-mapping t c = search needs
 
-list-pair-branch-pairs-requires : (t : ℕ) → list-pair-lts.Need-branch-pairs-requires (
-  branch-pairs-reads.Asked,
-  branch-pairs-reads.Learnt,
-  list-branch-below t,
-  list-branch.Post,
-) (list-pair-at t) list-pair.Post list-pair-Inv-loop list-pair-μ-loop
-list-pair-branch-pairs-requires t c κs = search needs
+list-pair-choice-requires : (t : ℕ) → list-pair-lts.Need-choice-requires (called t) (list-pair-at t) list-pair.Post list-pair-Inv-loop list-pair-μ-loop
+list-pair-choice-requires t c κs = search needs
 
-list-pair-loop-holds : (t : ℕ) → list-pair-lts.Need-loop-holds (
-  branch-pairs-reads.Asked,
-  branch-pairs-reads.Learnt,
-  list-branch-below t,
-  list-branch.Post,
-) (list-pair-at t) list-pair.Post list-pair-Inv-loop list-pair-μ-loop
-list-pair-loop-holds t c = (omega arith, λ p e R. pair-start _ _ _ _ (c .before .before .before .before .before .before .before .pre .1 .0 .passes) e R)
+list-pair-child-count-requires : (t : ℕ) → list-pair-lts.Need-child-count-requires (called t) (list-pair-at t) list-pair.Post list-pair-Inv-loop list-pair-μ-loop
+list-pair-child-count-requires t c κs = let s = c .before .before .before .before .before in pair-low (s .pre .1 .0) (sub-pair (s .pre .1 .1 .1 .0)) .0
 
-list-pair-array-read-list-branch : (t : ℕ) → list-pair-lts.Need-array-read-list-branch (
-  branch-pairs-reads.Asked,
-  branch-pairs-reads.Learnt,
-  list-branch-below t,
-  list-branch.Post,
-) (list-pair-at t) list-pair.Post list-pair-Inv-loop list-pair-μ-loop
+list-pair-loop-holds : (t : ℕ) → list-pair-lts.Need-loop-holds (called t) (list-pair-at t) list-pair.Post list-pair-Inv-loop list-pair-μ-loop
+list-pair-loop-holds t c =
+    let at-children = c in
+    let s = at-children .before .before .before .before .before .before in
+    let N = s .pre .1 .0 in
+    let Q = s .pre .1 .1 .1 .0 in
+    let R = s .pre .1 .1 .1 .1 in
+    let B = branch-pairs N (Q .u-low) (at-children .child-count .ensures) (at-children .before .choice .ensures) in
+    (omega arith, B .few, λ p e R. pair-start _ _ _ _ (N .passes) e R)
+
+list-pair-child-requires : (t : ℕ) → list-pair-lts.Need-child-requires (called t) (list-pair-at t) list-pair.Post list-pair-Inv-loop list-pair-μ-loop
+list-pair-child-requires t c κs =
+    let at-children = c .before .before in
+    let s = at-children .before .before .before .before .before .before in
+    let N = s .pre .1 .0 in
+    let Q = s .pre .1 .1 .1 .0 in
+    let R = s .pre .1 .1 .1 .1 in
+    (pair-low N (sub-pair Q) .0, omega arith)
+
+list-pair-array-read-list-branch : (t : ℕ) → list-pair-lts.Need-array-read-list-branch (called t) (list-pair-at t) list-pair.Post list-pair-Inv-loop list-pair-μ-loop
 list-pair-array-read-list-branch t c = search needs
 
-list-pair-array-read-list-branch-2 : (t : ℕ) → list-pair-lts.Need-array-read-list-branch-2 (
-  branch-pairs-reads.Asked,
-  branch-pairs-reads.Learnt,
-  list-branch-below t,
-  list-branch.Post,
-) (list-pair-at t) list-pair.Post list-pair-Inv-loop list-pair-μ-loop
-list-pair-array-read-list-branch-2 t c = search needs
-
-list-pair-sub-list-branch : (t : ℕ) → list-pair-lts.Need-sub-list-branch (
-  branch-pairs-reads.Asked,
-  branch-pairs-reads.Learnt,
-  list-branch-below t,
-  list-branch.Post,
-) (list-pair-at t) list-pair.Post list-pair-Inv-loop list-pair-μ-loop
+list-pair-sub-list-branch : (t : ℕ) → list-pair-lts.Need-sub-list-branch (called t) (list-pair-at t) list-pair.Post list-pair-Inv-loop list-pair-μ-loop
 list-pair-sub-list-branch t c =
-    let s = c .before .before .before .before .before .before .before .before .before in
-    omega (arith, depth-some _ _ _ (s .args .work .now) (s .pre .1 .0 .passes) (s .pre .1 .1 .1 .1))
-
-list-pair-list-branch-requires : (t : ℕ) → list-pair-lts.Need-list-branch-requires (
-  branch-pairs-reads.Asked,
-  branch-pairs-reads.Learnt,
-  list-branch-below t,
-  list-branch.Post,
-) (list-pair-at t) list-pair.Post list-pair-Inv-loop list-pair-μ-loop
-list-pair-list-branch-requires t c κs =
-    let s = c .before .before .before .before .before .before .before .before .before .before in
-    let l = c .before .before in
+    let at-children = c .before .before .before in
+    let s = at-children .before .before .before .before .before .before in
+    let N = s .pre .1 .0 in
+    let Q = s .pre .1 .1 .1 .0 in
     let R = s .pre .1 .1 .1 .1 in
-    let B = c .before .before .before .before .before .branch-pairs .ensures in
-    let S = l .loop .inv .1 (s .args .mapping .now) refl R in
-    let i = c .before .loop-test .taken in
-    let h = depth-some _ _ _ (s .args .work .now) (s .pre .1 .0 .passes) R in
-    (omega arith, (s .pre .1 .0, (s .pre .1 .1 .0, (branch-subproblem _ _ _ _ (s .pre .1 .0 .passes) R B S i, branch-room _ _ _ _ (s .pre .1 .0 .passes) R B S i))))
+    omega (arith, depth-some _ _ _ (s .args .work .now) (N .passes) R)
 
-list-pair-add-i : (t : ℕ) → list-pair-lts.Need-add-i (
-  branch-pairs-reads.Asked,
-  branch-pairs-reads.Learnt,
-  list-branch-below t,
-  list-branch.Post,
-) (list-pair-at t) list-pair.Post list-pair-Inv-loop list-pair-μ-loop
+list-pair-list-branch-requires : (t : ℕ) → list-pair-lts.Need-list-branch-requires (called t) (list-pair-at t) list-pair.Post list-pair-Inv-loop list-pair-μ-loop
+list-pair-list-branch-requires t c κs =
+    let at-children = c .before .before .before .before in
+    let s = at-children .before .before .before .before .before .before in
+    let N = s .pre .1 .0 in
+    let Q = s .pre .1 .1 .1 .0 in
+    let R = s .pre .1 .1 .1 .1 in
+    let B = branch-pairs N (Q .u-low) (at-children .child-count .ensures) (at-children .before .choice .ensures) in
+    let l = c .before .before .before in
+    let S = l .loop .inv .2 (s .args .mapping .now) refl R in
+    let i = c .before .before .loop-test .taken in
+    let h = depth-some _ _ _ (s .args .work .now) (N .passes) R in
+    (omega arith, (N, (s .pre .1 .1 .0, rw (c .before .child .ensures) (branch-subproblem _ _ _ _ (N .passes) R B S i, branch-room _ _ _ _ (N .passes) R B S i))))
+
+list-pair-add-i : (t : ℕ) → list-pair-lts.Need-add-i (called t) (list-pair-at t) list-pair.Post list-pair-Inv-loop list-pair-μ-loop
 list-pair-add-i t c = search needs
 
-list-pair-loop-less : (t : ℕ) → list-pair-lts.Need-loop-less (
-  branch-pairs-reads.Asked,
-  branch-pairs-reads.Learnt,
-  list-branch-below t,
-  list-branch.Post,
-) (list-pair-at t) list-pair.Post list-pair-Inv-loop list-pair-μ-loop
+list-pair-loop-less : (t : ℕ) → list-pair-lts.Need-loop-less (called t) (list-pair-at t) list-pair.Post list-pair-Inv-loop list-pair-μ-loop
 list-pair-loop-less t c = search needs
 
-list-pair-loop-again : (t : ℕ) → list-pair-lts.Need-loop-again (
-  branch-pairs-reads.Asked,
-  branch-pairs-reads.Learnt,
-  list-branch-below t,
-  list-branch.Post,
-) (list-pair-at t) list-pair.Post list-pair-Inv-loop list-pair-μ-loop
+list-pair-loop-again : (t : ℕ) → list-pair-lts.Need-loop-again (called t) (list-pair-at t) list-pair.Post list-pair-Inv-loop list-pair-μ-loop
 list-pair-loop-again t c =
-    let s = c .before .before .before .before .before .before .before .before .before .before .before .before .before in
-    let l = c .before .before .before .before .before in
-    (omega arith, λ p e R. branch-more _ _ _ _ (s .pre .1 .0 .passes) R (c .before .before .before .before .before .before .before .before .branch-pairs .ensures) (l .loop .inv .1 p e R) (c .before .before .before .before .loop-test .taken) (c .before .before .list-branch .ensures))
-
-list-pair-same-length : (t : ℕ) → list-pair-lts.Need-same-length (
-  branch-pairs-reads.Asked,
-  branch-pairs-reads.Learnt,
-  list-branch-below t,
-  list-branch.Post,
-) (list-pair-at t) list-pair.Post list-pair-Inv-loop list-pair-μ-loop
-list-pair-same-length t c =
-    let s = c .before .before .before .before .before .before .before .before .before in
-    c .before .loop .inv .1 (s .args .mapping .now) refl (s .pre .1 .1 .1 .1) .size
-
-list-pair-returns : (t : ℕ) → list-pair-lts.Need-returns (
-  branch-pairs-reads.Asked,
-  branch-pairs-reads.Learnt,
-  list-branch-below t,
-  list-branch.Post,
-) (list-pair-at t) list-pair.Post list-pair-Inv-loop list-pair-μ-loop
-list-pair-returns t c =
-    let s = c .before .before .before .before .before .before .before .before .before in
+    let at-children = c .before .before .before .before .before .before .before in
+    let s = at-children .before .before .before .before .before .before in
+    let N = s .pre .1 .0 in
+    let Q = s .pre .1 .1 .1 .0 in
     let R = s .pre .1 .1 .1 .1 in
-    pair-done _ _ _ _ (s .pre .1 .0 .passes) R (c .before .before .before .before .branch-pairs .ensures) (c .before .loop .inv .1 (s .args .mapping .now) refl R) (c .loop-test .left) (s .pre .1 .1 .1 .0)
+    let B = branch-pairs N (Q .u-low) (at-children .child-count .ensures) (at-children .before .choice .ensures) in
+    let l = c .before .before .before .before .before .before in
+    let at-kid = c .before .before .before .before in
+    (omega arith, l .loop .inv .1, λ p e R. branch-more _ _ _ _ (N .passes) R B (l .loop .inv .2 p e R) (at-kid .before .loop-test .taken) (rw (at-kid .child .ensures) at (c .before .before .list-branch .ensures)))
+
+list-pair-same-length : (t : ℕ) → list-pair-lts.Need-same-length (called t) (list-pair-at t) list-pair.Post list-pair-Inv-loop list-pair-μ-loop
+list-pair-same-length t c =
+    let at-children = c .before .before in
+    let s = at-children .before .before .before .before .before .before in
+    let N = s .pre .1 .0 in
+    let Q = s .pre .1 .1 .1 .0 in
+    let R = s .pre .1 .1 .1 .1 in
+    c .before .loop .inv .2 (s .args .mapping .now) refl R .size
+
+list-pair-returns : (t : ℕ) → list-pair-lts.Need-returns (called t) (list-pair-at t) list-pair.Post list-pair-Inv-loop list-pair-μ-loop
+list-pair-returns t c =
+    let at-children = c .before .before in
+    let s = at-children .before .before .before .before .before .before in
+    let N = s .pre .1 .0 in
+    let Q = s .pre .1 .1 .1 .0 in
+    let R = s .pre .1 .1 .1 .1 in
+    let B = branch-pairs N (Q .u-low) (at-children .child-count .ensures) (at-children .before .choice .ensures) in
+    pair-done _ _ _ _ (N .passes) R B (c .before .loop .inv .2 (s .args .mapping .now) refl R) (c .loop-test .left) Q
 
 pub +list-branch+list-pair-spec : {M : Type 1} → statement M
 +list-branch+list-pair-spec = close μ-list-branch μ-list-pair (λ t. list-branch-lts.spec (
@@ -204,17 +197,26 @@ pub +list-branch+list-pair-spec : {M : Type 1} → statement M
     (list-branch-same-length t)
     (list-branch-returns t)
     (list-branch-returns-2 t))
-    λ t. list-pair-lts.spec
-    (branch-pairs-reads.Asked, branch-pairs-reads.Learnt, list-branch-below t, list-branch.Post)
+    λ t. list-pair-lts.spec (
+      choice-reads.Asked,
+      choice-reads.Learnt,
+      child-count-reads.Asked,
+      child-count-reads.Learnt,
+      child-reads.Asked,
+      child-reads.Learnt,
+      list-branch-below t,
+      list-branch.Post,
+    )
     (list-pair-at t)
     list-pair.Post
     list-pair-Inv-loop
     list-pair-μ-loop
     (list-pair-slice-write-mapping t)
-    (list-pair-branch-pairs-requires t)
+    (list-pair-choice-requires t)
+    (list-pair-child-count-requires t)
     (list-pair-loop-holds t)
+    (list-pair-child-requires t)
     (list-pair-array-read-list-branch t)
-    (list-pair-array-read-list-branch-2 t)
     (list-pair-sub-list-branch t)
     (list-pair-list-branch-requires t)
     (list-pair-add-i t)

@@ -25,12 +25,6 @@ loop-holds c = (omega arith, refl)
 slice-write-mapping : tie.Need-slice-write-mapping Inv-loop μ-loop
 slice-write-mapping c = let e = kept (c .before) in search needs
 
-add-i : tie.Need-add-i Inv-loop μ-loop
-add-i c = search needs
-
-loop-less : tie.Need-loop-less Inv-loop μ-loop
-loop-less c = search needs
-
 loop-again : tie.Need-loop-again Inv-loop μ-loop
 loop-again c =
     let l = c .before in
@@ -55,8 +49,8 @@ clear-spec =
     μ-loop
     loop-holds
     slice-write-mapping
-    add-i
-    loop-less
+    (λ c. search needs)
+    (λ c. search needs)
     loop-again
     same-length
     returns)

@@ -20,9 +20,6 @@ list-pair-requires c κs =
     let l = s .pre .1 .1 .0 in
     (s .pre .0, (s .pre .1 .0, (top-subproblem _ _ _ (s .args .work .now) k (l .0) (l .1), top-room _ _ _ (s .args .work .now) k (s .args .u) _ (s .args .mapping .now) _ (l .0) (c .before .before .before .before .before .vertex-count .ensures) (s .pre .1 .1 .1) (c .before .before .before .clear .ensures))))
 
-same-length : tie.Need-same-length
-same-length c = search needs
-
 returns : tie.Need-returns
 returns c =
     let s = c .before .before .before .before .before .before .before .before .before .before .before .before .before in
@@ -32,4 +29,4 @@ returns c =
 pub read-out-spec : {M : Type 1} → statement M
 read-out-spec =
     tie.close
-    (tie.spec vertex-count-requires clear-requires list-pair-requires same-length returns)
+    (tie.spec vertex-count-requires clear-requires list-pair-requires (λ c. search needs) returns)

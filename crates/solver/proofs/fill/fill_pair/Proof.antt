@@ -1,161 +1,231 @@
 -- `fill_pair` meets its contract. Assumes nothing.
-use Rattle.solver.specs.FillLaws.{fill-none, fill-next, fill-lent, number-few, run-choice, run-sub, run-solve}
-use Rattle.solver.specs.Branches.{sides-accepted, sides-few, prepared-readable, prepared-stands}
+use Rattle.solver.specs.FillLaws.{fill-none, fill-next, fill-lent, length-repeated, run-forbidden, run-leaf, run-table, run-number}
+use Rattle.plan.specs.Numbers.{number-few, ready-accepted}
+use Rattle.plan.specs.Pairs.{pair-low, degree-few}
+use Rattle.integers.specs.Laws.{weightOk-number}
 use Rattle.model.specs.Values.{fill}
 use Rattle.subtrees.specs.Filling.{length-fill}
 use Rattle.foundations.specs.Machine.{Same, back}
 use Prim.Native.Nat.{_≤_, _-_}
 use lib.ListN.{length}
-use mathlib.Core.Path.{_≡_, ap, _∙_}
+use mathlib.Core.Path.{_≡_, refl, sym, ap, _∙_}
 use borrow.Author.Needs.{needs}
 use native.Mathlib.Omega.{arith}
 use Rattle.solver.proofs.fill.fill_pair.Statement.{statement}
 use Rattle.solver.proofs.fill.fill_pair.Tie as tie
 
 abbrev Inv-loop : tie.InvT-loop
-Inv-loop table recorded found weights fnear flabels starts work₀ k label base u v q from count w names labels l back i₀ work i = (i ≤ count) × (work ≡ fill table recorded found work₀ from i)
+Inv-loop table recorded found plan work₀ u v q from count w k l g i₀ work i = (i ≤ count) × (work ≡ fill table recorded found work₀ from i)
 
 abbrev μ-loop : tie.MeasureT-loop
-μ-loop table recorded found weights fnear flabels starts work₀ k label base u v q from count w names labels l back i₀ work i = count - i
+μ-loop table recorded found plan work₀ u v q from count w k l g i₀ work i = count - i
 
-pair-weight-requires : tie.Need-pair-weight-requires Inv-loop μ-loop
-pair-weight-requires c κs =
-    let at-start = c .before .before .before in
-    let p = at-start .pre in (sides-accepted (p .0), (p .1 .1 .1 .u-low, p .1 .1 .1 .v-low))
+vertex-pair-requires : tie.Need-vertex-pair-requires Inv-loop μ-loop
+vertex-pair-requires c κs =
+    let p = c .before .before .before .pre in
+    (ready-accepted (p .0), (p .1 .1 .pair .u-low, p .1 .1 .pair .v-low))
 
-mul-names : tie.Need-mul-names Inv-loop μ-loop
-mul-names c = search needs
+child-count-requires : tie.Need-child-count-requires Inv-loop μ-loop
+child-count-requires c κs =
+    let p = c .before .before .before .before .pre in
+    pair-low (p .0) (p .1 .1 .pair) .0
 
-element-copy-out-names : tie.Need-element-copy-out-names Inv-loop μ-loop
-element-copy-out-names c =
-    let at-start = c .before .before .before .before in
-    let p = at-start .pre in omega (arith, sides-few (p .0) .1, p .1 .1 .1 .v-low)
+degree-requires : tie.Need-degree-requires Inv-loop μ-loop
+degree-requires c κs =
+    let p = c .before .before .before .before .before .pre in
+    pair-low (p .0) (p .1 .1 .pair) .1
 
-mul-labels : tie.Need-mul-labels Inv-loop μ-loop
-mul-labels c = search needs
+is-forbidden-requires : tie.Need-is-forbidden-requires Inv-loop μ-loop
+is-forbidden-requires c κs = search needs
 
-element-copy-out-labels : tie.Need-element-copy-out-labels Inv-loop μ-loop
-element-copy-out-labels c =
-    let at-start = c .before .before .before .before .before in
-    let p = at-start .pre in omega (arith, sides-few (p .0) .1, p .1 .1 .1 .v-low)
+repeat-requires : tie.Need-repeat-requires Inv-loop μ-loop
+repeat-requires c κs =
+    let at-forbidden = c .before .before in
+    let at-degree = at-forbidden .before in
+    let at-children = at-degree .before in
+    let at-pair = at-children .before in
+    let s = at-pair .before .before .before .before in
+    let p = s .pre in
+    omega (arith, p .1 .1 .enough, p .1 .0 .enough)
 
-taken-requires : tie.Need-taken-requires Inv-loop μ-loop
-taken-requires c κs = search needs
+same-length : tie.Need-same-length Inv-loop μ-loop
+same-length c = ap length (c .before .repeat .ensures) ∙ length-repeated _ _ _ _
 
-behind-requires : tie.Need-behind-requires Inv-loop μ-loop
-behind-requires c κs =
-    let at-start = c .before .before .before .before .before .before .before in
-    let p = at-start .pre in (omega (arith, sides-few (p .0) .1, p .1 .1 .1 .v-low), p .0 .found .small)
+stored-value-requires : tie.Need-stored-value-requires Inv-loop μ-loop
+stored-value-requires c κs =
+    let at-forbidden = c .before .before .before in
+    let at-degree = at-forbidden .before in
+    let at-children = at-degree .before in
+    let at-pair = at-children .before in
+    let s = at-pair .before .before .before .before in
+    let p = s .pre in
+    let b : Same (at-pair .vertex-pair .result) = back (at-pair .vertex-pair .ok) in
+    (rw b (weightOk-number _ (at-pair .vertex-pair .ensures .ok) (sym (rw b at (at-forbidden .is-forbidden .ensures)) ∙ c .before .before .if1 .left)), omega arith)
+
+repeat-requires-2 : tie.Need-repeat-requires-2 Inv-loop μ-loop
+repeat-requires-2 c κs =
+    let at-forbidden = c .before .before .before .before in
+    let at-degree = at-forbidden .before in
+    let at-children = at-degree .before in
+    let at-pair = at-children .before in
+    let s = at-pair .before .before .before .before in
+    let p = s .pre in
+    omega (arith, p .1 .1 .enough, p .1 .0 .enough)
+
+same-length-2 : tie.Need-same-length-2 Inv-loop μ-loop
+same-length-2 c = ap length (c .before .repeat2 .ensures) ∙ length-repeated _ _ _ _
+
+returns-2 : tie.Need-returns-2 Inv-loop μ-loop
+returns-2 c =
+    let at-forbidden = c .before .before .before .before .before .before in
+    let at-degree = at-forbidden .before in
+    let at-children = at-degree .before in
+    let at-pair = at-children .before in
+    let s = at-pair .before .before .before .before in
+    let p = s .pre in
+    let b : Same (at-pair .vertex-pair .result) = back (at-pair .vertex-pair .ok) in
+    let at-stored = c .before .before in
+    let d : Same (at-stored .stored-value .result) = back (at-stored .stored-value .ok) in
+    (rw d at (c .before .repeat2 .ensures)) ∙ run-leaf (p .0) (p .1 .1) _ _ (at-pair .vertex-pair .ensures) (sym (rw b at (at-forbidden .is-forbidden .ensures)) ∙ c .before .before .before .before .before .if1 .left) (sym (at-children .child-count .ensures) ∙ c .before .before .before .before .if2 .taken) ((rw b at (at-stored .stored-value .ensures)) .is) _
+
+gains-requires : tie.Need-gains-requires Inv-loop μ-loop
+gains-requires c κs =
+    let at-forbidden = c .before .before .before .before in
+    let at-degree = at-forbidden .before in
+    let at-children = at-degree .before in
+    let at-pair = at-children .before in
+    let s = at-pair .before .before .before .before in
+    let p = s .pre in
+    (refl, (p .0, (p .1 .0, p .1 .1 .pair)))
 
 loop-holds : tie.Need-loop-holds Inv-loop μ-loop
 loop-holds c = (omega arith, fill-none _ _ _ _ _)
 
-add-choice-in : tie.Need-add-choice-in Inv-loop μ-loop
-add-choice-in c =
-    let at-behind = c .before .before in
-    let at-taken = at-behind .before in
-    let at-pair-weight = at-taken .before .before .before in
-    let at-start = at-pair-weight .before .before .before .before in
-    let p = at-start .pre in
-    let h = run-choice (p .0) (p .1 .1 .1) _ (c .loop-test .taken) in
-    omega arith
+add-heaviest : tie.Need-add-heaviest Inv-loop μ-loop
+add-heaviest c =
+    let l = c .before .before in
+    let at-gains = l .before in
+    let at-forbidden = at-gains .before .before .before .before .before in
+    let at-degree = at-forbidden .before in
+    let at-children = at-degree .before in
+    let at-pair = at-children .before in
+    let s = at-pair .before .before .before .before in
+    let p = s .pre in
+    let h = p .1 .1 .choice _ (c .before .loop-test .taken) in
+    omega (arith, degree-few (p .0) (p .1 .1 .pair))
 
-choice-in-requires : tie.Need-choice-in-requires Inv-loop μ-loop
-choice-in-requires c κs =
-    let at-behind = c .before .before in
-    let at-taken = at-behind .before in
-    let at-pair-weight = at-taken .before .before .before in
-    let at-start = at-pair-weight .before .before .before .before in
-    let p = at-start .pre in
-    run-choice (p .0) (p .1 .1 .1) _ (c .loop-test .taken)
+heaviest-requires : tie.Need-heaviest-requires Inv-loop μ-loop
+heaviest-requires c κs =
+    let l = c .before .before in
+    let at-gains = l .before in
+    let at-forbidden = at-gains .before .before .before .before .before in
+    let at-degree = at-forbidden .before in
+    let at-children = at-degree .before in
+    let at-pair = at-children .before in
+    let s = at-pair .before .before .before .before in
+    let p = s .pre in
+    let D = at-gains .gains .ensures in
+    (D .long, run-table (p .0) (p .1 .1) _ _ _ _ (at-children .child-count .ensures) (at-degree .degree .ensures) D _ (c .before .loop-test .taken))
 
-number-of-requires : tie.Need-number-of-requires Inv-loop μ-loop
-number-of-requires c κs =
-    let at-choice = c .before .before .before .before in
-    let at-in = at-choice .before in
-    let at-loop = at-in .before in
-    let at-behind = at-loop .before in
-    let at-taken = at-behind .before in
-    let at-pair-weight = at-taken .before .before .before in
-    let at-start = at-pair-weight .before .before .before .before in
-    let p = at-start .pre in
-    let b : Same (at-pair-weight .pair-weight .result) = back (at-pair-weight .pair-weight .ok) in
-    (prepared-readable _ _ _ _ _ _ _ (p .0) _ (fill-lent _ _ _ _ _ _ _ (p .1 .0) (at-loop .loop .inv .1)) _ _ _ (run-sub (p .0) (p .1 .1 .1) _ (at-in .loop-test .taken) (at-choice .choice-in .ensures)) _ _ _ _ _ (record { kids = p .1 .1 .0; taken = at-taken .taken .ensures; behind = at-behind .behind .ensures }), rw b (at-pair-weight .pair-weight .ensures .ok))
+stored-value-requires-2 : tie.Need-stored-value-requires-2 Inv-loop μ-loop
+stored-value-requires-2 c κs =
+    let l = c .before .before .before in
+    let at-gains = l .before in
+    let at-forbidden = at-gains .before .before .before .before .before in
+    let at-degree = at-forbidden .before in
+    let at-children = at-degree .before in
+    let at-pair = at-children .before in
+    let s = at-pair .before .before .before .before in
+    let p = s .pre in
+    let b : Same (at-pair .vertex-pair .result) = back (at-pair .vertex-pair .ok) in
+    (rw b (weightOk-number _ (at-pair .vertex-pair .ensures .ok) (sym (rw b at (at-forbidden .is-forbidden .ensures)) ∙ at-gains .before .before .before .before .if1 .left)), (let h = c .heaviest .ensures .small in omega arith))
 
 add-x : tie.Need-add-x Inv-loop μ-loop
 add-x c =
-    let at-in = c .before .before .before .before .before .before in
-    let at-loop = at-in .before in
-    let at-behind = at-loop .before in
-    let at-taken = at-behind .before in
-    let at-pair-weight = at-taken .before .before .before in
-    let at-start = at-pair-weight .before .before .before .before in
-    let p = at-start .pre in
-    let h = p .1 .1 .1 .enough in
-    let l = at-in .loop-test .taken in
+    let l = c .before .before .before .before in
+    let at-gains = l .before in
+    let at-forbidden = at-gains .before .before .before .before .before in
+    let at-degree = at-forbidden .before in
+    let at-children = at-degree .before in
+    let at-pair = at-children .before in
+    let s = at-pair .before .before .before .before in
+    let p = s .pre in
+    let h = p .1 .1 .enough in
+    let t = c .before .before .before .loop-test .taken in
     let n = number-few (p .0) in
     omega arith
 
 mul-x : tie.Need-mul-x Inv-loop μ-loop
 mul-x c =
-    let at-in = c .before .before .before .before .before .before in
-    let at-loop = at-in .before in
-    let at-behind = at-loop .before in
-    let at-taken = at-behind .before in
-    let at-pair-weight = at-taken .before .before .before in
-    let at-start = at-pair-weight .before .before .before .before in
-    let p = at-start .pre in
-    let h = p .1 .1 .1 .enough in
-    let l = at-in .loop-test .taken in
+    let l = c .before .before .before .before in
+    let at-gains = l .before in
+    let at-forbidden = at-gains .before .before .before .before .before in
+    let at-degree = at-forbidden .before in
+    let at-children = at-degree .before in
+    let at-pair = at-children .before in
+    let s = at-pair .before .before .before .before in
+    let p = s .pre in
+    let h = p .1 .1 .enough in
+    let t = c .before .before .before .loop-test .taken in
     let n = number-few (p .0) in
     omega arith
 
 slice-set-from-x : tie.Need-slice-set-from-x Inv-loop μ-loop
 slice-set-from-x c =
-    let at-in = c .before .before .before .before .before .before in
-    let at-loop = at-in .before in
-    let at-behind = at-loop .before in
-    let at-taken = at-behind .before in
-    let at-pair-weight = at-taken .before .before .before in
-    let at-start = at-pair-weight .before .before .before .before in
-    let p = at-start .pre in
-    let h = p .1 .1 .1 .enough in
-    let l = at-in .loop-test .taken in
-    let n = fill-lent _ _ _ _ _ _ _ (p .1 .0) (at-loop .loop .inv .1) .enough in
+    let l = c .before .before .before .before in
+    let at-gains = l .before in
+    let at-forbidden = at-gains .before .before .before .before .before in
+    let at-degree = at-forbidden .before in
+    let at-children = at-degree .before in
+    let at-pair = at-children .before in
+    let s = at-pair .before .before .before .before in
+    let p = s .pre in
+    let h = p .1 .1 .enough in
+    let t = c .before .before .before .loop-test .taken in
+    let n = fill-lent _ _ _ _ _ _ _ (p .1 .0) (l .loop .inv .1) .enough in
     omega arith
-
-add-i : tie.Need-add-i Inv-loop μ-loop
-add-i c = search needs
-
-loop-less : tie.Need-loop-less Inv-loop μ-loop
-loop-less c = search needs
 
 loop-again : tie.Need-loop-again Inv-loop μ-loop
 loop-again c =
-    let at-choice = c .before .before .before .before .before in
-    let at-in = at-choice .before in
-    let at-loop = at-in .before in
-    let at-behind = at-loop .before in
-    let at-taken = at-behind .before in
-    let at-pair-weight = at-taken .before .before .before in
-    let at-start = at-pair-weight .before .before .before .before in
-    let p = at-start .pre in
-    let b : Same (at-pair-weight .pair-weight .result) = back (at-pair-weight .pair-weight .ok) in
-    let d : Same (c .number-of .result) = back (c .number-of .ok) in
-    let l = at-in .loop-test .taken in
-    (omega arith, rw d (fill-next _ _ _ _ _ _ _ _ (at-loop .loop .inv .1) (run-solve (p .0) (p .1 .1 .1) _ l (at-choice .choice-in .ensures) _ _ ((rw b at (c .number-of .ensures)) .is _ _ _ _ _ (at-pair-weight .pair-weight .ensures .is) (prepared-stands _ _ _ _ _ _ _ (p .0) _ (fill-lent _ _ _ _ _ _ _ (p .1 .0) (at-loop .loop .inv .1)) _ _ _ (run-sub (p .0) (p .1 .1 .1) _ (at-in .loop-test .taken) (at-choice .choice-in .ensures)) _ _ _ _ _ (record { kids = p .1 .1 .0; taken = at-taken .taken .ensures; behind = at-behind .behind .ensures }))))))
+    let l = c .before .before .before .before in
+    let at-gains = l .before in
+    let at-forbidden = at-gains .before .before .before .before .before in
+    let at-degree = at-forbidden .before in
+    let at-children = at-degree .before in
+    let at-pair = at-children .before in
+    let s = at-pair .before .before .before .before in
+    let p = s .pre in
+    let b : Same (at-pair .vertex-pair .result) = back (at-pair .vertex-pair .ok) in
+    let t = c .before .before .before .loop-test .taken in
+    let d : Same (c .stored-value2 .result) = back (c .stored-value2 .ok) in
+    (omega arith, rw d (fill-next _ _ _ _ _ _ _ _ (l .loop .inv .1) (run-number (p .0) (p .1 .1) _ _ _ _ (at-children .child-count .ensures) (at-degree .degree .ensures) (at-gains .gains .ensures) _ (at-pair .vertex-pair .ensures) (sym (rw b at (at-forbidden .is-forbidden .ensures)) ∙ at-gains .before .before .before .before .if1 .left) _ t _ _ (c .before .heaviest .ensures) ((rw b at (c .stored-value2 .ensures)) .is))))
 
-same-length : tie.Need-same-length Inv-loop μ-loop
-same-length c = ap length (c .before .loop .inv .1) ∙ length-fill _ _ _ _ _ _
+same-length-3 : tie.Need-same-length-3 Inv-loop μ-loop
+same-length-3 c = ap length (c .before .loop .inv .1) ∙ length-fill _ _ _ _ _ _
+
+returns-3 : tie.Need-returns-3 Inv-loop μ-loop
+returns-3 c =
+    let l = c .before in
+    let at-gains = l .before in
+    let at-forbidden = at-gains .before .before .before .before .before in
+    let at-degree = at-forbidden .before in
+    let at-children = at-degree .before in
+    let at-pair = at-children .before in
+    let s = at-pair .before .before .before .before in
+    let p = s .pre in
+    let e : l .loop .i ≡ s .args .count = omega arith in
+    rw e at (l .loop .inv .1)
 
 returns : tie.Need-returns Inv-loop μ-loop
 returns c =
-    let at-behind = c .before .before in
-    let at-taken = at-behind .before in
-    let at-pair-weight = at-taken .before .before .before in
-    let at-start = at-pair-weight .before .before .before .before in
-    let p = at-start .pre in
-    let e : c .before .loop .i ≡ at-start .args .count = omega arith in rw e at (c .before .loop .inv .1)
+    let at-forbidden = c .before .before .before .before in
+    let at-degree = at-forbidden .before in
+    let at-children = at-degree .before in
+    let at-pair = at-children .before in
+    let s = at-pair .before .before .before .before in
+    let p = s .pre in
+    let b : Same (at-pair .vertex-pair .result) = back (at-pair .vertex-pair .ok) in
+    c .before .repeat .ensures ∙ run-forbidden (p .0) (p .1 .1) _ (at-pair .vertex-pair .ensures) (sym (rw b at (at-forbidden .is-forbidden .ensures)) ∙ c .before .before .before .if1 .taken) _
 
 pub fill-pair-spec : {M : Type 1} → statement M
 fill-pair-spec =
@@ -163,22 +233,27 @@ fill-pair-spec =
     (tie.spec
     Inv-loop
     μ-loop
-    pair-weight-requires
-    mul-names
-    element-copy-out-names
-    mul-labels
-    element-copy-out-labels
-    taken-requires
-    behind-requires
+    vertex-pair-requires
+    child-count-requires
+    degree-requires
+    is-forbidden-requires
+    repeat-requires
+    same-length
+    returns
+    stored-value-requires
+    repeat-requires-2
+    same-length-2
+    returns-2
+    gains-requires
     loop-holds
-    add-choice-in
-    choice-in-requires
-    number-of-requires
+    add-heaviest
+    heaviest-requires
+    stored-value-requires-2
     add-x
     mul-x
     slice-set-from-x
-    add-i
-    loop-less
+    (λ c. search needs)
+    (λ c. search needs)
     loop-again
-    same-length
-    returns)
+    same-length-3
+    returns-3)

@@ -1,113 +1,84 @@
 -- `choice` meets its contract. Assumes nothing.
-use Rattle.solver.specs.Branches.{known-sound, sub-low, prepared-readable, prepared-stands, choice-at, known-kids}
-use Rattle.solver.specs.Plan.{known-sides}
+use Rattle.plan.specs.Pairs.{pair-low, degree-is, degree-few}
+use Rattle.solver.specs.Mates.{sub-pair, sub-table, sub-choice}
+use Rattle.solver.specs.Heaviest.{out-sized}
+use mathlib.Core.Path.{refl}
 use native.Mathlib.Omega.{arith}
-use borrow.Author.Needs.{needs}
 use Rattle.solver.proofs.subproblem.choice.Statement.{statement}
 use Rattle.solver.proofs.subproblem.choice.Tie as tie
 
-wide-requires : tie.Need-wide-requires
-wide-requires c κs = search needs
+child-count-requires : tie.Need-child-count-requires
+child-count-requires c κs =
+    let p = c .before .before .before .pre in
+    let N = p .0 in
+    let Q = p .1 .1 in
+    pair-low N (sub-pair Q) .0
 
-mul-kids : tie.Need-mul-kids
-mul-kids c = search needs
+degree-requires : tie.Need-degree-requires
+degree-requires c κs =
+    let p = c .before .before .before .before .pre in
+    let N = p .0 in
+    let Q = p .1 .1 in
+    pair-low N (sub-pair Q) .1
 
-element-copy-out-kids : tie.Need-element-copy-out-kids
-element-copy-out-kids c =
-    let at-start = c .before .before .before .before in
-    let p = at-start .pre in omega (arith, sub-low (p .0) (p .1 .1) .0, c .wide .ensures)
+slot-requires : tie.Need-slot-requires
+slot-requires c κs =
+    let p = c .before .before .before .before .before .pre in
+    let N = p .0 in
+    let Q = p .1 .1 in
+    (pair-low N (sub-pair Q) .1, rw (degree-is N (sub-pair Q)) (degree-few N (sub-pair Q)))
 
-mul-kids-2 : tie.Need-mul-kids-2
-mul-kids-2 c = search needs
+gains-requires : tie.Need-gains-requires
+gains-requires c κs =
+    let p = c .before .before .before .before .before .before .before .pre in
+    let N = p .0 in
+    let Q = p .1 .1 in
+    (refl, (N, (p .1 .0, sub-pair Q)))
 
-element-copy-out-kids-2 : tie.Need-element-copy-out-kids-2
-element-copy-out-kids-2 c =
-    let at-start = c .before .before .before .before .before in
-    let p = at-start .pre in omega (arith, sub-low (p .0) (p .1 .1) .0, c .before .wide .ensures)
-
-element-copy-out-kids-3 : tie.Need-element-copy-out-kids-3
-element-copy-out-kids-3 c =
-    let at-wide = c .before .before in
-    let at-start = at-wide .before .before .before .before in
-    let p = at-start .pre in omega (arith, sub-low (p .0) (p .1 .1) .0, at-wide .wide .ensures)
-
-width-of-requires : tie.Need-width-of-requires
-width-of-requires c κs =
-    let at-start = c .before .before .before .before .before .before .before in
-    known-sound (at-start .pre .0)
-
-kids-requires : tie.Need-kids-requires
-kids-requires c κs = search needs
-
-wide-requires-2 : tie.Need-wide-requires-2
-wide-requires-2 c κs = search needs
-
-mul-names : tie.Need-mul-names
-mul-names c = search needs
-
-element-copy-out-names : tie.Need-element-copy-out-names
-element-copy-out-names c =
-    let at-start = c .before .before .before .before .before .before .before .before .before .before .before .before in
-    let p = at-start .pre in omega (arith, sub-low (p .0) (p .1 .1) .1, c .wide2 .ensures)
-
-mul-labels : tie.Need-mul-labels
-mul-labels c = search needs
-
-element-copy-out-labels : tie.Need-element-copy-out-labels
-element-copy-out-labels c =
-    let at-start = c .before .before .before .before .before .before .before .before .before .before .before .before .before in
-    let p = at-start .pre in omega (arith, sub-low (p .0) (p .1 .1) .1, c .before .wide2 .ensures)
-
-taken-requires : tie.Need-taken-requires
-taken-requires c κs = search needs
-
-behind-requires : tie.Need-behind-requires
-behind-requires c κs =
-    let at-start = c .before .before .before .before .before .before .before .before .before .before .before .before .before .before .before in
-    let p = at-start .pre in (sub-low (p .0) (p .1 .1) .1, p .0 .found .small)
+leave-out-requires : tie.Need-leave-out-requires
+leave-out-requires c κs =
+    let at-gains = c .before in
+    let at-slot = at-gains .before .before in
+    let at-degree = at-slot .before in
+    let at-children = at-degree .before in
+    let p = at-children .before .before .before .before .pre in
+    let N = p .0 in
+    let Q = p .1 .1 in
+    let T = sub-table N Q _ _ (at-gains .gains .ensures) (at-children .child-count .ensures) (at-degree .degree .ensures) (at-slot .slot .ensures) in
+    let a = T .columns in
+    let b = T .choice in
+    (at-gains .gains .ensures .long, T .rows, omega arith)
 
 mates-requires : tie.Need-mates-requires
 mates-requires c κs =
-    let at-behind = c .before .before .before .before .before in
-    let at-taken = at-behind .before in
-    let at-wide2 = at-taken .before .before .before in
-    let at-kids = at-wide2 .before .before .before in
-    let at-width-of = at-kids .before in
-    let at-wide = at-width-of .before .before .before .before in
-    let at-start = at-wide .before .before .before .before in
-    let p = at-start .pre in
-    rw (at-wide2 .wide2 .ensures) (prepared-readable _ _ _ _ _ _ _ (known-sides (p .0)) _ (p .1 .0) _ _ _ (p .1 .1) _ _ _ _ _ (record { kids = known-kids (p .0) (p .1 .1 .u-low) (at-width-of .width-of .ensures .0) (rw (at-wide .wide .ensures) at (at-kids .kids .ensures)); taken = rw (at-wide2 .wide2 .ensures) at (at-taken .taken .ensures); behind = at-behind .behind .ensures }))
+    let at-gains = c .before .before .before in
+    let at-slot = at-gains .before .before in
+    let at-degree = at-slot .before in
+    let at-children = at-degree .before in
+    let p = at-children .before .before .before .before .pre in
+    let N = p .0 in
+    let Q = p .1 .1 in
+    (out-sized (c .before .leave-out .ensures) (sub-table N Q _ _ (at-gains .gains .ensures) (at-children .child-count .ensures) (at-degree .degree .ensures) (at-slot .slot .ensures)), pair-low N (sub-pair Q) .1)
 
 returns : tie.Need-returns
 returns c =
-    let at-behind = c .before .before .before .before .before .before in
-    let at-taken = at-behind .before in
-    let at-wide2 = at-taken .before .before .before in
-    let at-kids = at-wide2 .before .before .before in
-    let at-width-of = at-kids .before in
-    let at-wide = at-width-of .before .before .before .before in
-    let at-start = at-wide .before .before .before .before in
-    let p = at-start .pre in
-    choice-at _ _ _ _ _ _ _ _ ((rw (at-wide2 .wide2 .ensures) at (c .mates .ensures)) .is _ _ _ (prepared-stands _ _ _ _ _ _ _ (known-sides (p .0)) _ (p .1 .0) _ _ _ (p .1 .1) _ _ _ _ _ (record { kids = known-kids (p .0) (p .1 .1 .u-low) (at-width-of .width-of .ensures .0) (rw (at-wide .wide .ensures) at (at-kids .kids .ensures)); taken = rw (at-wide2 .wide2 .ensures) at (at-taken .taken .ensures); behind = at-behind .behind .ensures })))
+    let at-gains = c .before .before .before .before in
+    let at-slot = at-gains .before .before in
+    let at-degree = at-slot .before in
+    let at-children = at-degree .before in
+    let p = at-children .before .before .before .before .pre in
+    let N = p .0 in
+    let Q = p .1 .1 in
+    sub-choice N Q _ _ (at-gains .gains .ensures) (at-children .child-count .ensures) (at-degree .degree .ensures) (at-slot .slot .ensures) (c .before .before .leave-out .ensures) (c .mates .ensures)
 
 pub choice-spec : {M : Type 1} → statement M
 choice-spec =
     tie.close
     (tie.spec
-    wide-requires
-    mul-kids
-    element-copy-out-kids
-    mul-kids-2
-    element-copy-out-kids-2
-    element-copy-out-kids-3
-    width-of-requires
-    kids-requires
-    wide-requires-2
-    mul-names
-    element-copy-out-names
-    mul-labels
-    element-copy-out-labels
-    taken-requires
-    behind-requires
+    child-count-requires
+    degree-requires
+    slot-requires
+    gains-requires
+    leave-out-requires
     mates-requires
     returns)

@@ -1,67 +1,111 @@
 -- `gain_row` meets its contract. Assumes nothing.
-use Rattle.solver.specs.Branches.{gainAt, RowFilled, row-none, row-more}
-use Prim.Native.Nat.{_≤_, _-_}
-use mathlib.Core.Path.{_≡_}
-use borrow.Author.Needs.{needs}
+use Prim.Native.Nat.{_+_, _*_, _≤_, _<_, _-_}
+use mathlib.Core.Path.{_≡_, _∙_}
+use native.Mathlib.Nat.{mul-le-mul}
 use native.Mathlib.Omega.{arith}
+use lib.ListN.{length, getD}
+use lib.IntN.{pos}
+use borrow.Author.Needs.{needs}
+use Rattle.foundations.specs.Machine.{Same, back}
+use Rattle.model.specs.Graph.{neighbours}
+use Rattle.model.specs.Limits.{vertexLimit, widthLimit}
+use Rattle.model.specs.Order.{width}
+use Rattle.model.specs.Values.{recalled}
+use Rattle.plan.specs.Plan.{childPlaceIn, childEdgeIn}
+use Rattle.plan.specs.Numbers.{ready-accepted, ready-sound}
+use Rattle.plan.specs.Pairs.{gainAt, RowFilled, row-none, row-more, pair-low, children-few, degree-few, degree-is, child-place-low, child-edge-low, edge-low}
+use Rattle.solver.specs.Branches.{work-low, work-gain}
 use Rattle.solver.proofs.subproblem.gain_row.Statement.{statement}
 use Rattle.solver.proofs.subproblem.gain_row.Tie as tie
 
 abbrev Inv-loop : tie.InvT-loop
-Inv-loop g₀ weights work i label base names labels back l s first j₀ g j = (j ≤ l) × RowFilled j i (gainAt weights work label base names labels back s) g₀ g
+Inv-loop g₀ table recorded found plan work u v i base label l j₀ g j =
+    (j ≤ l) × (l ≤ 8) × (i < 8) × (l ≡ length (neighbours found v)) × (base ≡ childPlaceIn plan u i * width found) × (label ≡ childEdgeIn plan u i)
+    × RowFilled j i (gainAt table recorded found (recalled recorded found work) u v i) g₀ g
 
 abbrev μ-loop : tie.MeasureT-loop
-μ-loop g₀ weights work i label base names labels back l s first j₀ g j = l - j
+μ-loop g₀ table recorded found plan work u v i base label l j₀ g j = l - j
 
-wide-requires : tie.Need-wide-requires Inv-loop μ-loop
-wide-requires c κs = search needs
+child-place-requires : tie.Need-child-place-requires Inv-loop μ-loop
+child-place-requires c κs =
+    let p = c .before .before .before .pre in
+    let Q = p .1 .1 .1 .0 in
+    (pair-low (p .1 .0) Q .0, omega (arith, p .1 .1 .1 .1, children-few (p .1 .0) Q))
 
-mul-first : tie.Need-mul-first Inv-loop μ-loop
-mul-first c = search needs
+width-of-requires : tie.Need-width-of-requires Inv-loop μ-loop
+width-of-requires c κs = ready-sound (c .before .before .before .before .pre .1 .0)
+
+mul-base : tie.Need-mul-base Inv-loop μ-loop
+mul-base c =
+    let p = c .before .before .before .before .before .pre in
+    let low = child-place-low (p .1 .0) (p .1 .1 .1 .0) _ (p .1 .1 .1 .1) in
+    let few = ready-accepted (p .1 .0) .recorded .ends .few in
+    let a : c .before .child-place .result ≤ vertexLimit = rw (c .before .child-place .ensures) (omega (arith, low, few)) in
+    let m : c .before .child-place .result * c .width-of .result ≤ vertexLimit * widthLimit = mul-le-mul a (c .width-of .ensures .2) in
+    omega arith
+
+child-edge-requires : tie.Need-child-edge-requires Inv-loop μ-loop
+child-edge-requires c κs =
+    let p = c .before .before .before .before .before .pre in
+    let Q = p .1 .1 .1 .0 in
+    (pair-low (p .1 .0) Q .0, omega (arith, p .1 .1 .1 .1, children-few (p .1 .0) Q))
+
+degree-requires : tie.Need-degree-requires Inv-loop μ-loop
+degree-requires c κs = let p = c .before .before .before .before .before .before .pre in pair-low (p .1 .0) (p .1 .1 .1 .0) .1
 
 loop-holds : tie.Need-loop-holds Inv-loop μ-loop
-loop-holds c = (omega arith, row-none _ _ _ (c .before .pre .long))
+loop-holds c =
+    let at-place = c .before .before .before in
+    let p = at-place .before .before .before .before .pre in
+    let N = p .1 .0 in
+    let Q = p .1 .1 .1 .0 in
+    let d = c .degree .ensures ∙ degree-is N Q in
+    (omega arith, omega (arith, d, degree-few N Q), omega (arith, p .1 .1 .1 .1, children-few N Q), d, rw (at-place .child-place .ensures, c .before .before .width-of .ensures .0), c .before .child-edge .ensures, row-none _ _ _ (p .0))
 
-element-copy-out-wide : tie.Need-element-copy-out-wide Inv-loop μ-loop
-element-copy-out-wide c = search needs
+-- in the loop, j is a neighbour's place
+in-row : (c : tie.In-loop Inv-loop μ-loop) → let s = c .before .before .before .before .before .before .before .before .before in c .before .loop .j < length (neighbours (s .args .found .now) (s .args .v))
+in-row c = omega (arith, c .loop-test .taken, c .before .loop .inv .3)
 
-wide-requires-2 : tie.Need-wide-requires-2 Inv-loop μ-loop
-wide-requires-2 c κs = search needs
+neighbour-edge-requires : tie.Need-neighbour-edge-requires Inv-loop μ-loop
+neighbour-edge-requires c κs =
+    let p = c .before .before .before .before .before .before .before .before .before .pre in
+    (pair-low (p .1 .0) (p .1 .1 .1 .0) .1, omega (arith, c .loop-test .taken, c .before .loop .inv .1))
 
-add-pair-gain : tie.Need-add-pair-gain Inv-loop μ-loop
-add-pair-gain c =
+edge-pair-requires : tie.Need-edge-pair-requires Inv-loop μ-loop
+edge-pair-requires c κs =
+    let l = c .before .before in
+    let p = l .before .before .before .before .before .before .before .before .pre in
+    let N = p .1 .0 in
+    let Q = p .1 .1 .1 .0 in
+    (ready-accepted N .weights, (rw (l .loop .inv .5) (child-edge-low N Q _ (p .1 .1 .1 .1)), rw (c .neighbour-edge .ensures) (edge-low N Q _ (p .1 .1 .1 .1) _ (in-row (c .before)))))
+
+behind-requires : tie.Need-behind-requires Inv-loop μ-loop
+behind-requires c κs =
     let l = c .before .before .before in
-    let a = l .before .before .pre .labels-low (l .loop .j) (omega arith) in
-    omega (arith, a)
+    let p = l .before .before .before .before .before .before .before .before .pre in
+    (pair-low (p .1 .0) (p .1 .1 .1 .0) .1, omega (arith, c .before .before .loop-test .taken, l .loop .inv .1))
 
-mul-pair-gain : tie.Need-mul-pair-gain Inv-loop μ-loop
-mul-pair-gain c = search needs
-
-element-copy-out-pair-gain : tie.Need-element-copy-out-pair-gain Inv-loop μ-loop
-element-copy-out-pair-gain c = search needs
-
-add-pair-gain-2 : tie.Need-add-pair-gain-2 Inv-loop μ-loop
-add-pair-gain-2 c =
+-- the number behind the branch is one of those lent
+lent : (c : tie.After-behind Inv-loop μ-loop) → let s = c .before .before .before .before .before .before .before .before .before .before .before .before in c .before .before .before .before .before .before .before .before .child-place .result * c .before .before .before .before .before .before .before .width-of .result + c .behind .result < length (s .args .work .now)
+lent c =
     let l = c .before .before .before .before in
-    let b = l .before .before .pre .room (l .loop .j) (omega arith) in
-    omega (arith, b)
+    let p = l .before .before .before .before .before .before .before .before .pre in
+    omega (arith, work-low (p .1 .0) (p .1 .1 .1 .0) _ (p .1 .1 .1 .1) _ (in-row (c .before .before .before)) (p .1 .1 .0), l .loop .inv .4, c .behind .ensures)
 
-element-copy-out-pair-gain-2 : tie.Need-element-copy-out-pair-gain-2 Inv-loop μ-loop
-element-copy-out-pair-gain-2 c = search needs
+add-gain-of : tie.Need-add-gain-of Inv-loop μ-loop
+add-gain-of c = omega (arith, lent c)
 
-pair-gain-requires : tie.Need-pair-gain-requires Inv-loop μ-loop
-pair-gain-requires c κs =
-    let l = c .before .before .before .before .before in
-    let p = l .before .before .pre in
-    let a = p .labels-low (l .loop .j) (omega arith) in
-    let b = p .room (l .loop .j) (omega arith) in
-    (omega (arith, a), omega (arith, b))
+mul-gain-of : tie.Need-mul-gain-of Inv-loop μ-loop
+mul-gain-of c = omega (arith, lent c)
+
+shared-slice-copy-out-gain-of : tie.Need-shared-slice-copy-out-gain-of Inv-loop μ-loop
+shared-slice-copy-out-gain-of c = lent c
+
+gain-of-requires : tie.Need-gain-of-requires Inv-loop μ-loop
+gain-of-requires c κs = search needs
 
 mul-g : tie.Need-mul-g Inv-loop μ-loop
 mul-g c = search needs
-
-add-g : tie.Need-add-g Inv-loop μ-loop
-add-g c = search needs
 
 mul-g-2 : tie.Need-mul-g-2 Inv-loop μ-loop
 mul-g-2 c = search needs
@@ -69,22 +113,35 @@ mul-g-2 c = search needs
 element-write-g : tie.Need-element-write-g Inv-loop μ-loop
 element-write-g c = search needs
 
-add-j : tie.Need-add-j Inv-loop μ-loop
-add-j c = search needs
-
-loop-less : tie.Need-loop-less Inv-loop μ-loop
-loop-less c = search needs
-
 loop-again : tie.Need-loop-again Inv-loop μ-loop
-unfolding gainAt
 loop-again c =
-    let l = c .before .before .before .before .before .before in
-    let w = c .before .before .before .wide2 in
-    let p = l .before .before .pre in
-    (omega arith, row-more (l .loop .j) _ _ _ _ _ (p .row) (omega (arith, p .columns)) (l .loop .inv .1) (rw (w .ensures, l .before .wide .ensures) at (c .pair-gain .ensures .is)) (c .pair-gain .ensures .small))
+    let at-behind = c .before .before in
+    let at-pair = at-behind .before in
+    let at-edge = at-pair .before in
+    let l = at-edge .before .before in
+    let s = l .before .before .before .before .before .before .before .before in
+    let p = s .pre in
+    let N = p .1 .0 in
+    let Q = p .1 .1 .1 .0 in
+    let a : Same (at-pair .edge-pair .result) = back (at-pair .edge-pair .ok) in
+    let b : Same (getD (s .args .work .now) (l .before .before .before .before .child-place .result * l .before .before .before .width-of .result + at-behind .behind .result) (pos 0)) = search needs in
+    let E = rw (l .loop .inv .5, at-edge .neighbour-edge .ensures) at (at-pair .edge-pair .ensures) in (
+      omega arith,
+      l .loop .inv .1,
+      l .loop .inv .2,
+      l .loop .inv .3,
+      l .loop .inv .4,
+      l .loop .inv .5,
+      row-more (l .loop .j) _ _ _ _ _ (l .loop .inv .2) (omega arith) (l .loop .inv .6)
+          (work-gain N Q _ (p .1 .1 .1 .1) _ (in-row (at-edge .before)) _ _ _ E (rw (a, b, l .loop .inv .4, at-behind .behind .ensures) at (c .gain-of .ensures)))
+          (c .gain-of .ensures .small),
+    )
 
 returns : tie.Need-returns Inv-loop μ-loop
-returns c = let e : c .before .loop .j ≡ c .before .before .before .args .l = omega arith in rw e at (c .before .loop .inv .1)
+returns c =
+    let l = c .before in
+    let e : l .loop .j ≡ l .before .degree .result = omega arith in
+    rw (e, l .loop .inv .3) at (l .loop .inv .6)
 
 pub gain-row-spec : {M : Type 1} → statement M
 gain-row-spec =
@@ -92,22 +149,24 @@ gain-row-spec =
     (tie.spec
     Inv-loop
     μ-loop
-    wide-requires
-    mul-first
+    child-place-requires
+    width-of-requires
+    mul-base
+    child-edge-requires
+    degree-requires
     loop-holds
-    element-copy-out-wide
-    wide-requires-2
-    add-pair-gain
-    mul-pair-gain
-    element-copy-out-pair-gain
-    add-pair-gain-2
-    element-copy-out-pair-gain-2
-    pair-gain-requires
+    neighbour-edge-requires
+    edge-pair-requires
+    behind-requires
+    add-gain-of
+    mul-gain-of
+    shared-slice-copy-out-gain-of
+    gain-of-requires
     mul-g
-    add-g
+    (λ c. search needs)
     mul-g-2
     element-write-g
-    add-j
-    loop-less
+    (λ c. search needs)
+    (λ c. search needs)
     loop-again
     returns)

@@ -1,48 +1,55 @@
 -- `gains` meets its contract. Assumes nothing.
-use Rattle.solver.specs.Branches.{gainsOf, Filled, filled-none, filled-more, row-readable}
+use Rattle.model.specs.Values.{recalled}
+use Rattle.plan.specs.Pairs.{gainAt, Filled, filled-none, filled-more, pair-low, children-is, degree-few}
+use Rattle.model.specs.Graph.{neighbours}
+use Rattle.model.specs.Order.{children}
 use Prim.Native.Nat.{_≤_, _-_}
-use mathlib.Core.Path.{_≡_}
+use lib.ListN.{length}
+use mathlib.Core.Path.{_≡_, _∙_}
 use borrow.Author.Needs.{needs}
 use native.Mathlib.Omega.{arith}
 use Rattle.solver.proofs.subproblem.gains.Statement.{statement}
 use Rattle.solver.proofs.subproblem.gains.Tie as tie
 
 abbrev Inv-loop : tie.InvT-loop
-Inv-loop g₀ weights work label base k names labels back l s i₀ g i = (i ≤ k) × Filled i l (gainsOf weights work label base names labels back s) g
+Inv-loop g₀ table recorded found plan work u v k i₀ g i = (i ≤ k) × (k ≡ length (children recorded u)) × Filled i (length (neighbours found v)) (gainAt table recorded found (recalled recorded found work) u v) g
 
 abbrev μ-loop : tie.MeasureT-loop
-μ-loop g₀ weights work label base k names labels back l s i₀ g i = k - i
+μ-loop g₀ table recorded found plan work u v k i₀ g i = k - i
+
+child-count-requires : tie.Need-child-count-requires Inv-loop μ-loop
+child-count-requires c κs =
+    let s = c .before .before .before in
+    let p = s .pre in
+    let N = p .1 .0 in
+    let Q = p .1 .1 .1 in
+    pair-low N Q .0
 
 loop-holds : tie.Need-loop-holds Inv-loop μ-loop
-loop-holds c = (omega arith, filled-none _ _ _ (c .pre .0))
-
-element-copy-out-gain-row : tie.Need-element-copy-out-gain-row Inv-loop μ-loop
-element-copy-out-gain-row c = search needs
-
-mul-gain-row : tie.Need-mul-gain-row Inv-loop μ-loop
-mul-gain-row c = search needs
-
-element-copy-out-gain-row-2 : tie.Need-element-copy-out-gain-row-2 Inv-loop μ-loop
-element-copy-out-gain-row-2 c = search needs
+loop-holds c =
+    let s = c .before .before .before .before in
+    let p = s .pre in
+    let N = p .1 .0 in
+    let Q = p .1 .1 .1 in
+    (omega arith, c .child-count .ensures ∙ children-is N Q, filled-none _ _ _ (p .0))
 
 gain-row-requires : tie.Need-gain-row-requires Inv-loop μ-loop
 gain-row-requires c κs =
-    let l = c .before .before .before .before in
-    row-readable _ _ _ (l .loop .i) _ _ _ _ _ (l .loop .inv .1 .long) (omega arith) (l .before .pre .1)
-
-add-i : tie.Need-add-i Inv-loop μ-loop
-add-i c = search needs
-
-loop-less : tie.Need-loop-less Inv-loop μ-loop
-loop-less c = search needs
+    let l = c .before .before in
+    let p = l .before .before .before .before .before .pre in
+    (l .loop .inv .2 .long, (p .1 .0, (p .1 .1 .0, (p .1 .1 .1, omega (arith, l .loop .inv .1)))))
 
 loop-again : tie.Need-loop-again Inv-loop μ-loop
 loop-again c =
-    let l = c .before .before .before .before .before in
-    (omega arith, filled-more (l .loop .i) _ _ _ _ (l .before .pre .1 .columns) (l .loop .inv .1) (c .gain-row .ensures))
+    let l = c .before .before .before in
+    let p = l .before .before .before .before .before .pre in
+    (omega arith, l .loop .inv .1, filled-more (l .loop .i) _ _ _ _ (degree-few (p .1 .0) (p .1 .1 .1)) (l .loop .inv .2) (c .gain-row .ensures))
 
 returns : tie.Need-returns Inv-loop μ-loop
-returns c = let e : c .before .loop .i ≡ c .before .before .args .k = omega arith in rw e at (c .before .loop .inv .1)
+returns c =
+    let l = c .before in
+    let e : l .loop .i ≡ l .before .child-count .result = omega arith in
+    rw (e, l .loop .inv .1) at (l .loop .inv .2)
 
 pub gains-spec : {M : Type 1} → statement M
 gains-spec =
@@ -50,12 +57,10 @@ gains-spec =
     (tie.spec
     Inv-loop
     μ-loop
+    child-count-requires
     loop-holds
-    element-copy-out-gain-row
-    mul-gain-row
-    element-copy-out-gain-row-2
     gain-row-requires
-    add-i
-    loop-less
+    (λ c. search needs)
+    (λ c. search needs)
     loop-again
     returns)

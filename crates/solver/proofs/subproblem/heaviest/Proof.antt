@@ -1,28 +1,54 @@
 -- `heaviest` meets its contract. Assumes nothing.
-use Rattle.solver.specs.Branches.{filled-sized, heaviest-of}
+use native.Mathlib.Omega.{arith}
+use Rattle.solver.specs.Heaviest.{out-sized, heaviest-solved, narrow-heaviest}
 use mathlib.Core.Path.{refl}
 use borrow.Author.Needs.{needs}
 use Rattle.solver.proofs.subproblem.heaviest.Statement.{statement}
 use Rattle.solver.proofs.subproblem.heaviest.Tie as tie
 
-gains-requires : tie.Need-gains-requires
-gains-requires c κs = search needs
+is-narrow-requires : tie.Need-is-narrow-requires
+is-narrow-requires c κs = search needs
+
+table-most-requires : tie.Need-table-most-requires
+table-most-requires c κs = search needs
+
+returns : tie.Need-returns
+returns c =
+    let s = c .before .before .before in
+    narrow-heaviest (s .pre .1) (c .before .before .is-narrow .ensures (c .before .if1 .taken)) _ (c .table-most .ensures)
+
+leave-out-requires : tie.Need-leave-out-requires
+leave-out-requires c κs =
+    let s = c .before .before .before .before in
+    let k = s .pre .1 .rows in
+    let d = s .pre .1 .choice in
+    let e = s .pre .1 .columns in
+    (s .pre .0, k, omega arith)
 
 solve-requires : tie.Need-solve-requires
 solve-requires c κs =
-    let at-gains = c .before .before .before .before in
-    let at-start = at-gains .before .before in
-    (filled-sized _ _ _ _ (at-start .pre .rows) (at-start .pre .columns) (at-gains .gains .ensures), record { rows = refl; columns = refl; matching = refl })
+    let at-out = c .before .before .before .before in
+    let s = at-out .before .before .before .before .before in
+    (out-sized (at-out .leave-out .ensures) (s .pre .1), record { rows = refl; columns = refl; matching = refl })
 
 total-requires : tie.Need-total-requires
 total-requires c κs = search needs
 
-returns : tie.Need-returns
-returns c =
+returns-2 : tie.Need-returns-2
+returns-2 c =
     let at-solve = c .before .before .before in
-    let at-gains = at-solve .before .before .before .before .before in
-    let at-start = at-gains .before .before in
-    heaviest-of _ _ _ _ _ _ _ _ _ _ _ _ _ _ (at-gains .gains .ensures) (at-solve .solve .ensures) _ (at-start .pre .rows) (c .total .ensures)
+    let at-out = at-solve .before .before .before .before .before in
+    let s = at-out .before .before .before .before .before in
+    heaviest-solved (at-out .leave-out .ensures) (s .pre .1) (at-solve .solve .ensures) (c .total .ensures)
 
 pub heaviest-spec : {M : Type 1} → statement M
-heaviest-spec = tie.close (tie.spec gains-requires solve-requires total-requires returns)
+heaviest-spec =
+    tie.close
+    (tie.spec
+    is-narrow-requires
+    table-most-requires
+    returns
+    leave-out-requires
+    solve-requires
+    total-requires
+    returns-2)

@@ -1,55 +1,61 @@
--- `put_records` makes the arrays that say where records stand, and stores all records. Assumes nothing.
-use mathlib.Core.Path.{refl}
-use Prim.Native.Nat.{_≤_}
+-- `put_records` stores the records of one recorded vertex after the other. Assumes nothing.
+use Prim.Native.Nat.{_*_, _-_, _≤_}
+use mathlib.Core.Path.{_≡_}
+use Rattle.model.specs.Order.{width}
+use Rattle.model.specs.Tree.{count}
+use Rattle.trees.specs.Accepted.{whole}
+use Rattle.plan.specs.Numbers.{ready-recorded}
+use Rattle.write.specs.Records.{RecordsLeft, records-none, records-then, records-end, row-up, rows-end}
+use borrow.Author.Needs.{needs}
 use native.Mathlib.Omega.{arith}
-use Rattle.records.specs.Places.{Inputs, ready-inputs, ready-offsets, inputs-recorded, inputs-found, sound-whole}
 use Rattle.write.proofs.record.put_records.Statement.{statement}
 use Rattle.write.proofs.record.put_records.Tie as tie
 
-square-sums-requires : tie.Need-square-sums-requires
-square-sums-requires c κs = let R = c .before .before .before .before .pre .0 in (inputs-found (ready-inputs R), ready-offsets R)
+abbrev Inv-loop : tie.InvT-loop
+Inv-loop table recorded found plan places work certificate₀ n i₀ certificate i =
+    (i ≤ n) × (n ≡ count recorded) × RecordsLeft table recorded found work 0 (i * width found) certificate₀ certificate
 
-record-sizes-requires : tie.Need-record-sizes-requires
-record-sizes-requires c κs = let R = c .before .before .before .before .before .pre .0 in (inputs-recorded (ready-inputs R), R .recorded)
+abbrev μ-loop : tie.MeasureT-loop
+μ-loop table recorded found plan places work certificate₀ n i₀ certificate i = n - i
 
--- what the arrays are made of
-read : (c : tie.After-sums) → Inputs (c .before .before .before .before .before .before .before .before .args .recorded .now) (c .before .before .before .before .before .before .before .before .args .found .now)
-read c = ready-inputs (c .before .before .before .before .before .before .before .before .pre .0)
+vertex-count-requires : tie.Need-vertex-count-requires Inv-loop μ-loop
+vertex-count-requires c κs = whole (ready-recorded (c .before .before .before .before .pre .0) .passed .ends)
 
-few : (c : tie.After-vertex-count) → c .vertex-count .result ≤ 64
-few c = rw (c .vertex-count .ensures) (inputs-recorded (read (c .before)) .passed .ends .few)
+loop-holds : tie.Need-loop-holds Inv-loop μ-loop
+loop-holds c = (omega arith, c .vertex-count .ensures, records-none _ _ _ (omega arith))
 
-vertex-count-requires : tie.Need-vertex-count-requires
-vertex-count-requires c κs = sound-whole (inputs-recorded (read c))
+put-row-requires : tie.Need-put-row-requires Inv-loop μ-loop
+put-row-requires c κs =
+    let l = c .before .before in
+    let p = l .before .before .before .before .before .before .pre in
+    (p .0, (p .1 .0, (p .1 .1 .0, (omega (arith, p .1 .1 .1, l .loop .inv .2 .kept .size), omega (arith, l .loop .inv .1, c .before .loop-test .taken)))))
 
-mul-row-begins : tie.Need-mul-row-begins
-mul-row-begins c = omega (arith, few c)
+loop-again : tie.Need-loop-again Inv-loop μ-loop
+loop-again c =
+    let l = c .before .before .before .before .before in
+    (omega arith, l .loop .inv .1, records-then (omega arith) (row-up _ _) (l .loop .inv .2) (c .before .before .put-row .ensures))
 
-add-row-begins : tie.Need-add-row-begins
-add-row-begins c = omega (arith, few c)
+same-length : tie.Need-same-length Inv-loop μ-loop
+same-length c = c .before .loop .inv .2 .kept .size
 
-row-begins-requires : tie.Need-row-begins-requires
-row-begins-requires c κs = (read (c .before), (c .before .before .before .record-sizes .ensures, (c .before .before .before .before .square-sums .ensures, rw (c .vertex-count .ensures) refl)))
-
-put-all-requires : tie.Need-put-all-requires
-put-all-requires c κs = (record { ready = c .before .before .before .before .before .before .before .before .before .before .before .before .before .before .pre .0; rows = c .before .before .before .before .row-begins .ensures; full = c .before .before .before .before .before .before .before .before .before .before .before .before .before .before .pre .1 .0 }, c .before .before .before .before .before .before .before .before .before .before .before .before .before .before .pre .1 .1)
-
-same-length : tie.Need-same-length
-same-length c = c .before .before .put-all .ensures .kept .size
-
-returns : tie.Need-returns
-returns c = c .before .before .put-all .ensures
+returns : tie.Need-returns Inv-loop μ-loop
+returns c =
+    let l = c .before in
+    let s = l .before .before .before .before .before .before in
+    let e : l .loop .i ≡ count (s .args .recorded .now) = omega (arith, l .loop .inv .1, c .loop-test .left) in
+    records-end (l .loop .inv .2) (rows-end _ _ _ e)
 
 pub put-records-spec : {M : Type 1} → statement M
 put-records-spec =
     tie.close
     (tie.spec
-    square-sums-requires
-    record-sizes-requires
+    Inv-loop
+    μ-loop
     vertex-count-requires
-    mul-row-begins
-    add-row-begins
-    row-begins-requires
-    put-all-requires
+    loop-holds
+    put-row-requires
+    (λ c. search needs)
+    (λ c. search needs)
+    loop-again
     same-length
     returns)

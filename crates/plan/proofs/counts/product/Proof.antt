@@ -1,0 +1,27 @@
+-- `product` meets its contract. Assumes nothing.
+use Prim.Native.Nat.{_*_, _-_, _≤_}
+use mathlib.Core.Path.{refl}
+use native.Mathlib.Omega.{arith}
+use native.Mathlib.Nat.{mul-le-mul}
+use borrow.Author.Needs.{needs}
+use Rattle.model.specs.Limits.{vertexLimit, widthLimit}
+use Rattle.plan.proofs.counts.product.Statement.{statement}
+use Rattle.plan.proofs.counts.product.Tie as tie
+
+mul-result : tie.Need-mul-result
+mul-result c = search needs
+
+sub-result : tie.Need-sub-result
+sub-result c = search needs
+
+small : (n m : _) → n ≤ vertexLimit → m ≤ vertexLimit → n * (3 * m - 2) ≤ vertexLimit * widthLimit
+small n m a b = mul-le-mul {n₁ = n} {m₁ = 3 * m - 2} {n₂ = vertexLimit} {m₂ = widthLimit} a (omega arith)
+
+mul-result-2 : tie.Need-mul-result-2
+mul-result-2 c = let p = c .pre in omega (arith, small (c .args .n) (c .args .m) (p .0) (p .2))
+
+returns : tie.Need-returns
+returns c = let p = c .pre in (refl, small (c .args .n) (c .args .m) (p .0) (p .2))
+
+pub product-spec : {M : Type 1} → statement M
+product-spec = tie.close (tie.spec mul-result sub-result mul-result-2 returns)

@@ -1,0 +1,262 @@
+-- The weights of pairs of vertices and of edges, the gains of branches, and what the plan says of a pair of vertices. Assumes nothing.
+use mathlib.Core.Path.{_≡_, refl, sym, ap, _∙_, subst}
+use mathlib.Core.Logic.{⊎-elim, _≢_}
+use mathlib.Core.Bool.{Bool, true, false, cond, _&&_, _||_}
+use mathlib.Core.List.{List}
+use Prim.Native.Nat.{ℕ, zero, suc, _+_, _*_, _≤_, _<_}
+use native.Mathlib.Omega.{arith}
+use native.Mathlib.Nat.{not-suc-le-zero}
+use lib.ListN.{length, getD, set, length-set}
+use lib.Seq.{getD-set-same, getD-set-other}
+use lib.Dec.{T, eqb}
+use lib.IntN.{ℤ}
+use Rattle.foundations.specs.Tests.{same?}
+use Rattle.foundations.specs.Int.{up}
+use Rattle.foundations.specs.Members.{mem, mem-there, getD-mem}
+use Rattle.model.specs.Bytes.{int32At}
+use Rattle.model.specs.Limits.{vertexLimit, degreeLimit}
+use Rattle.model.specs.Weights.{Weight, none, some, weighed, plusW, isForbidden, weightOk}
+use Rattle.model.specs.Table.{vertexLabels, edgeLabels, edgeWeight, vertexWeight, vertexRow, edgeRow, column}
+use Rattle.model.specs.Tree.{count, vertexLabel, endA, endB, edgeLabelAt}
+use Rattle.model.specs.Graph.{edges, joins, edgeBefore, neighbours, edgeLabel}
+use Rattle.model.specs.Order.{children, choices, width, index, subproblems}
+use Rattle.model.specs.Pairs.{vertexPair, edgePair}
+use Rattle.model.specs.Values.{branch}
+use Rattle.trees.specs.Accepted.{Passed, edge-known, vertex-known}
+use Rattle.trees.specs.Neighbours.{Adjacent, mem-adjacent, adjacent-mem, adjacent-back, few-neighbours, edge-joins}
+use Rattle.trees.specs.Rooted.{child-of, up-edge}
+use Rattle.trees.specs.Positions.{index-low, position-low}
+use Rattle.formats.specs.Table.{TablePassed}
+use Rattle.formats.specs.Inputs.{Accepted}
+use Rattle.integers.specs.Results.{Gain}
+use Rattle.plan.specs.Plan.{childCountIn, childEdgeIn, childPlaceIn, degreeIn, neighbourEdgeIn, behindIn, Ready, Pair}
+use Rattle.plan.specs.Numbers.{ready-accepted}
+
+-- ---- the pair of vertices
+
+pub record VertexPair (table r f : List ℕ) (u v : ℕ) (w : ℤ) : Type 0 where
+  pub is : vertexPair table r f u v ≡ weighed w
+  pub ok : weightOk w ≡ true
+
+pub vertex-pair : (table r f : List ℕ) → Accepted table r f → (u v i j : ℕ) (w : ℤ) → u < count r → v < count f → i ≡ vertexLabel r u → j ≡ vertexLabel f v → w ≡ int32At table (column (vertexRow table i) j) → VertexPair table r f u v w
+unfolding vertexPair vertexWeight
+vertex-pair table r f A u v i j w lu lv ei ej e = record {
+  is = rw (e, ei, ej);
+  ok = rw (e, ei, ej) (A .weights .vertex-ok (vertexLabel r u) (vertexLabel f v) (vertex-known r _ _ u (A .recorded) lu) (vertex-known f _ _ v (A .found) lv));
+}
+
+pub weighed-number : (w : ℤ) → isForbidden w ≡ false → weighed w ≡ some w
+unfolding weighed
+weighed-number w e = rw e
+
+pub weighed-none : (w : ℤ) → isForbidden w ≡ true → weighed w ≡ none
+unfolding weighed
+weighed-none w e = rw e
+
+-- ---- the pair of edges
+
+-- w is the weight of each pair of edges of which the plan says i and j
+pub record EdgePair (table : List ℕ) (i j : ℕ) (w : ℤ) : Type 0 where
+  pub is : (r f : List ℕ) (u u′ v v′ : ℕ) → i ≡ edgeLabel r u u′ → j ≡ edgeLabel f v v′ → edgePair table r f u u′ v v′ ≡ weighed w
+  pub ok : weightOk w ≡ true
+
+pub edge-pair : (table : List ℕ) → TablePassed table → (i j : ℕ) (w : ℤ) → i < edgeLabels table → j < edgeLabels table → w ≡ int32At table (column (edgeRow table i) j) → EdgePair table i j w
+unfolding edgePair edgeWeight
+edge-pair table T i j w hi hj e = record { is = λ r f u u′ v v′ a b. rw (e, a, b); ok = rw e (T .edge-ok i j hi hj) }
+
+-- a pair of edges weighs the same from its other ends
+or-swap : (a b : Bool) → (a || b) ≡ (b || a)
+or-swap true true = refl
+or-swap true false = refl
+or-swap false true = refl
+or-swap false false = refl
+
+and-swap : (a b : Bool) → (a && b) ≡ (b && a)
+and-swap true true = refl
+and-swap true false = refl
+and-swap false true = refl
+and-swap false false = refl
+
+joins-swap : (a b v w : ℕ) → joins a b v w ≡ joins a b w v
+unfolding joins
+joins-swap a b v w = or-swap (eqb a v && eqb b w) (eqb b v && eqb a w) ∙ ap (λ (x : Bool). x || (eqb a v && eqb b w)) (and-swap (eqb b v) (eqb a w)) ∙ ap (λ (x : Bool). (eqb a w && eqb b v) || x) (and-swap (eqb a v) (eqb b w))
+
+edge-swap : (s : List ℕ) (n v w k : ℕ) → edgeBefore s n v w k ≡ edgeBefore s n w v k
+unfolding edgeBefore
+edge-swap s n v w zero = refl
+edge-swap s n v w (suc k) = rw (joins-swap (endA s n k) (endB s n k) v w, edge-swap s n v w k)
+
+pub label-swap : (s : List ℕ) (v w : ℕ) → edgeLabel s v w ≡ edgeLabel s w v
+unfolding edgeLabel
+label-swap s v w = ap (edgeLabelAt s (count s)) (edge-swap s (count s) v w (edges s))
+
+pub pair-swap : (table r f : List ℕ) (u u′ v v′ : ℕ) → edgePair table r f u u′ v v′ ≡ edgePair table r f u′ u v′ v
+unfolding edgePair
+pair-swap table r f u u′ v v′ = rw (label-swap r u u′, label-swap f v v′)
+
+-- ---- gains
+
+-- the greater of 0 and a weight, and 0 where it is forbidden
+unfoldable pub upW : Weight → ℕ
+upW none = 0
+upW (some z) = up z
+
+-- what an edge weight and a value gain
+pub record GainIs (edge value : ℤ) (r : ℕ) : Type 0 where
+  pub is : r ≡ upW (plusW (weighed edge) (weighed value))
+  pub small : r ≤ 4294967294
+
+pub gain-edge : (edge value : ℤ) → isForbidden edge ≡ true → GainIs edge value 0
+unfolding upW weighed
+gain-edge edge value e = record { is = rw e; small = omega arith }
+
+plus-none : (x : Weight) → plusW x none ≡ none
+plus-none none = refl
+plus-none (some a) = refl
+
+pub gain-value : (edge value : ℤ) → isForbidden value ≡ true → GainIs edge value 0
+unfolding upW weighed
+gain-value edge value e = record { is = rw e (sym (ap upW (plus-none (cond (isForbidden edge) none (some edge))))); small = omega arith }
+
+pub gain-number : (edge value : ℤ) (r : ℕ) → isForbidden edge ≡ false → isForbidden value ≡ false → Gain edge value r → GainIs edge value r
+unfolding upW weighed
+gain-number edge value r e h g = record { is = rw (e, h) (g .is); small = g .small }
+
+-- the gain of u's i-th child with v's j-th neighbour, where `given` are the values
+unfoldable pub gainAt : List ℕ → List ℕ → List ℕ → (ℕ → ℕ → ℕ → Weight) → ℕ → ℕ → ℕ → ℕ → ℕ
+gainAt table r f given u v i j = upW (branch table r f given u v (getD (children r u) i 0) (getD (neighbours f v) j 0))
+
+-- ---- a table of gains, 8 in a row
+
+abbrev pub cell : List ℕ → ℕ → ℕ → ℕ
+cell g i j = getD g (i * 8 + j) 0
+
+-- the first n of row i are F's, the other rows are as before
+pub record RowFilled (n i : ℕ) (F : ℕ → ℕ) (g r : List ℕ) : Type 0 where
+  pub long : length r ≡ 64
+  pub here : (j : ℕ) → j < n → (cell r i j ≡ F j) × (cell r i j ≤ 4294967294)
+  pub other : (q j : ℕ) → q ≢ i → j < 8 → cell r q j ≡ cell g q j
+
+pub row-none : (i : ℕ) (F : ℕ → ℕ) (g : List ℕ) → length g ≡ 64 → RowFilled 0 i F g g
+row-none i F g e = record { long = e; here = λ j h. absurd (not-suc-le-zero h); other = λ q j n h. refl }
+
+pub row-more : (j i v : ℕ) (F : ℕ → ℕ) (g r : List ℕ) → i < 8 → j < 8 → RowFilled j i F g r → v ≡ F j → v ≤ 4294967294 → RowFilled (j + 1) i F g (set r (i * 8 + j) v)
+row-more j i v F g r hi hj R e b =
+    let n : length r ≡ 64 = R .long in
+    record {
+      long = length-set r (i * 8 + j) v ∙ n;
+      here = λ x l. ⊎-elim
+          (λ q. let c : cell (set r (i * 8 + j) v) i x ≡ v = ap (λ (y : ℕ). getD (set r (i * 8 + j) v) (i * 8 + y) 0) q ∙ getD-set-same r (i * 8 + j) v 0 (omega arith) in (c ∙ e ∙ ap F (sym q), omega arith))
+          (λ q. let c : cell (set r (i * 8 + j) v) i x ≡ cell r i x = getD-set-other r (i * 8 + j) (i * 8 + x) v 0 (λ p. q (omega arith)) in let h = R .here x (omega arith) in (c ∙ h .0, omega (arith, h .1)))
+          (same? x j);
+      other = λ q x ne h. getD-set-other r (i * 8 + j) (q * 8 + x) v 0 (λ p. ne (omega arith)) ∙ R .other q x ne h;
+    }
+
+-- the first n rows are F's
+pub record Filled (n l : ℕ) (F : ℕ → ℕ → ℕ) (r : List ℕ) : Type 0 where
+  pub long : length r ≡ 64
+  pub get : (i j : ℕ) → i < n → j < l → (cell r i j ≡ F i j) × (cell r i j ≤ 4294967294)
+
+pub filled-none : (l : ℕ) (F : ℕ → ℕ → ℕ) (r : List ℕ) → length r ≡ 64 → Filled 0 l F r
+filled-none l F r e = record { long = e; get = λ i j h. absurd (not-suc-le-zero h) }
+
+pub filled-more : (n l : ℕ) (F : ℕ → ℕ → ℕ) (g r : List ℕ) → l ≤ 8 → Filled n l F g → RowFilled l n (F n) g r → Filled (n + 1) l F r
+filled-more n l F g r hl D R = record {
+  long = R .long;
+  get = λ i j hi hj. ⊎-elim
+      (λ e. subst (λ (q : ℕ). (cell r q j ≡ F q j) × (cell r q j ≤ 4294967294)) (sym e) (R .here j hj))
+      (λ e. let o : cell r i j ≡ cell g i j = R .other i j e (omega arith) in let p = D .get i j (lower hi e) hj in (o ∙ p .0, omega (arith, p .1)))
+      (same? i n);
+}
+  where
+    lower : {i : ℕ} → i < n + 1 → i ≢ n → i < n
+    lower a b = omega arith
+
+-- ---- in accepted trees
+
+-- the label of an edge is one of the table's
+pub label-known : (s : List ℕ) (K L : ℕ) → Passed s K L → (v x : ℕ) → Adjacent s v x → edgeLabel s v x < L
+unfolding edgeLabel
+label-known s K L p v x a = edge-known s K L _ p (edge-joins s v x a .0)
+
+child-adjacent : (s : List ℕ) (K L : ℕ) → Passed s K L → (u c : ℕ) → u < count s → T (mem c (children s u)) → Adjacent s u c
+child-adjacent s K L p u c l m =
+    let q = child-of s (p .ends) (p .tree) u c l m in
+    adjacent-back s c u (subst (λ (y : ℕ). Adjacent s c y) (q .2) (up-edge s (p .ends) (p .tree) c (q .0) (q .1)))
+
+-- what the plan says of a pair of vertices
+module _ {table r f : List ℕ} {plan : List (List ℕ)} (N : Ready table r f plan) where
+  pr : Passed r (vertexLabels table) (edgeLabels table)
+  pr = ready-accepted N .recorded
+
+  pf : Passed f (vertexLabels table) (edgeLabels table)
+  pf = ready-accepted N .found
+
+  module _ {u v : ℕ} (Q : Pair r f u v) where
+    pub pair-low : (u < vertexLimit) × (v < vertexLimit)
+    pair-low =
+        let a : count r ≤ vertexLimit = pr .ends .few in
+        let b : count f ≤ vertexLimit = pf .ends .few in
+        let x = Q .u-low in
+        let y = Q .v-low in
+        (omega arith, omega arith)
+
+    pub children-is : childCountIn plan u ≡ length (children r u)
+    children-is = N .planned .recorded u (Q .u-low) .child-count
+
+    pub degree-is : degreeIn plan v ≡ length (neighbours f v)
+    degree-is = N .planned .found v (Q .v-low) .degree
+
+    pub children-few : length (children r u) ≤ degreeLimit
+    children-few = N .planned .recorded u (Q .u-low) .few
+
+    pub degree-few : length (neighbours f v) ≤ degreeLimit
+    degree-few = few-neighbours f _ _ pf v (Q .v-low)
+
+    module _ (i : ℕ) (hi : i < length (children r u)) where
+      child-in : T (mem (getD (children r u) i 0) (children r u))
+      child-in = getD-mem (children r u) i hi
+
+      pub child-low : getD (children r u) i 0 < count r
+      child-low = child-of r (pr .ends) (pr .tree) u (getD (children r u) i 0) (Q .u-low) child-in .0
+
+      pub child-edge-is : childEdgeIn plan u i ≡ edgeLabel r u (getD (children r u) i 0)
+      child-edge-is = N .planned .recorded u (Q .u-low) .child-edge i hi
+
+      pub child-edge-low : childEdgeIn plan u i < edgeLabels table
+      child-edge-low = rw child-edge-is (label-known r _ _ pr u (getD (children r u) i 0) (child-adjacent r _ _ pr u (getD (children r u) i 0) (Q .u-low) child-in))
+
+      pub child-place-low : childPlaceIn plan u i < count r
+      child-place-low = rw (N .planned .recorded u (Q .u-low) .child-place i hi) (position-low r (pr .ends) (pr .tree) (getD (children r u) i 0) child-low)
+
+      module _ (j : ℕ) (hj : j < length (neighbours f v)) where
+        neighbour-in : T (mem (getD (neighbours f v) j 0) (neighbours f v))
+        neighbour-in = getD-mem (neighbours f v) j hj
+
+        pub edge-is : neighbourEdgeIn plan v j ≡ edgeLabel f v (getD (neighbours f v) j 0)
+        edge-is = N .planned .found v (Q .v-low) .edge j hj
+
+        pub edge-low : neighbourEdgeIn plan v j < edgeLabels table
+        edge-low = rw edge-is (label-known f _ _ pf v (getD (neighbours f v) j 0) (mem-adjacent f v (getD (neighbours f v) j 0) neighbour-in .1))
+
+        -- v is one of the neighbour's choices of s
+        pub back-in : T (mem v (choices f (getD (neighbours f v) j 0)))
+        back-in =
+            let x = getD (neighbours f v) j 0 in
+            mem-there v x (neighbours f x) (adjacent-mem f (pf .ends) x v (adjacent-back f v x (mem-adjacent f v x neighbour-in .1)))
+
+        -- the number behind a branch is that of its subproblem
+        pub branch-index : childPlaceIn plan u i * width f + behindIn plan v j ≡ index r f (getD (children r u) i 0) (getD (neighbours f v) j 0) v
+        unfolding index
+        branch-index = rw (N .planned .recorded u (Q .u-low) .child-place i hi, N .planned .found v (Q .v-low) .behind j hj)
+
+        pub branch-low : childPlaceIn plan u i * width f + behindIn plan v j < subproblems r f
+        branch-low = rw branch-index (index-low r f (pr .ends) (pr .tree) (pf .ends) (pf .tree) (getD (children r u) i 0) (getD (neighbours f v) j 0) v child-low (mem-adjacent f v (getD (neighbours f v) j 0) neighbour-in .0) back-in)
+
+        -- the branch's gain, where y is the value behind it
+        pub gain-is : (given : ℕ → ℕ → ℕ → Weight) (edge y : ℤ) (g : ℕ) → EdgePair table (childEdgeIn plan u i) (neighbourEdgeIn plan v j) edge → given (getD (children r u) i 0) (getD (neighbours f v) j 0) v ≡ weighed y → GainIs edge y g → g ≡ gainAt table r f given u v i j
+        unfolding gainAt
+        gain-is given edge y g e h G = rw (E, h) (G .is)
+          where
+            E : edgePair table r f u (getD (children r u) i 0) v (getD (neighbours f v) j 0) ≡ weighed edge
+            E = e .is r f u (getD (children r u) i 0) v (getD (neighbours f v) j 0) child-edge-is edge-is
