@@ -58,7 +58,8 @@ pub fn check_front(
             next: at,
         };
     }
-    let plan = make(recorded, found);
+    let mut plan = [[0u8; 8]; 512];
+    make(&mut plan, recorded, found);
     let k = front_item(table, recorded, found, &plan, certificate, at);
     let n = vertex_count(recorded);
     let next = at + 8 + 3 * n;

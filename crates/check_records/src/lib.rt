@@ -59,6 +59,7 @@ pub fn check_records(
     if refusal != 0 {
         return refusal;
     }
-    let plan = make(recorded, found);
+    let mut plan = [[0u8; 8]; 512];
+    make(&mut plan, recorded, found);
     records_item(table, recorded, found, &plan, certificate)
 }

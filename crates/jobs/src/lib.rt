@@ -108,7 +108,8 @@ pub fn advance_core(
             answer: AdvanceAnswer::Refused(item),
         };
     }
-    let plan = make(recorded, found);
+    let mut plan = [[0u8; 8]; 512];
+    make(&mut plan, recorded, found);
     advance_ready(job, table, recorded, found, &plan, budget, work)
 }
 
@@ -179,6 +180,7 @@ pub fn finish(
     if item != 0 {
         return MatchAnswer::Refused(item);
     }
-    let plan = make(recorded, found);
+    let mut plan = [[0u8; 8]; 512];
+    make(&mut plan, recorded, found);
     finish_ready(job, table, recorded, found, &plan, work, mapping)
 }

@@ -77,7 +77,8 @@ pub fn match_trees(
     if item != 0 {
         return MatchAnswer::Refused(item);
     }
-    let plan = make(recorded, found);
+    let mut plan = [[0u8; 8]; 512];
+    make(&mut plan, recorded, found);
     let w = solve_and_read(table, recorded, found, &plan, work, mapping);
     MatchAnswer::Found(w)
 }

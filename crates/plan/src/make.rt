@@ -280,14 +280,13 @@ fn plan_found(plan: &mut [[u8; 8]; 512], found: &[u8])
     store_found(plan, found, &neighbours, &labels, &begins);
 }
 
-// The plan of two accepted trees.
-pub fn make(recorded: &[u8], found: &[u8]) -> [[u8; 8]; 512]
+// The plan of two accepted trees, over whatever stood there.
+pub fn make(plan: &mut [[u8; 8]; 512], recorded: &[u8], found: &[u8])
+    requires { ⌜ length (now plan) ≡ 512 ⌝ }
     requires { ⌜ Sound (now recorded) ⌝ }
     requires { ⌜ Sound (now found) ⌝ }
-    ensures { λ r. ⌜ Planned (now (recorded .entry)) (now (found .entry)) r ⌝ }
+    ensures { λ _. ⌜ Planned (now (recorded .entry)) (now (found .entry)) (now (plan .exit)) ⌝ }
 {
-    let mut plan = [[0u8; 8]; 512];
-    plan_recorded(&mut plan, recorded);
-    plan_found(&mut plan, found);
-    plan
+    plan_recorded(plan, recorded);
+    plan_found(plan, found);
 }

@@ -11,50 +11,45 @@ pub struct Order {
     pub len: usize,
 }
 
-// The order with one vertex more, or unchanged where it is full.
-fn push(o: Order, x: u8) -> Order
-    ensures { λ r. ⌜ ((l : List ℕ) → Holds vertexLimit noVertex l (o .at) (o .len) → Holds vertexLimit noVertex (l ++ (x ∷ [])) (r .at) (r .len)) ⌝ }
+// One vertex more behind the `len` that `at` holds: how many it holds then. Where it is full, nothing changes.
+fn push(at: &mut [u8; 64], len: usize, x: u8) -> usize
+    ensures { λ r. ⌜ ((l : List ℕ) → Holds vertexLimit noVertex l (now (at .entry)) len → Holds vertexLimit noVertex (l ++ (x ∷ [])) (now (at .exit)) r) ⌝ }
 {
-    let len = o.len;
     if model::Limits::ROWS <= len {
-        return o;
+        return len;
     }
-    let mut r = o;
-    r.at[len] = x;
-    r.len = len + 1;
-    r
+    at[len] = x;
+    len + 1
 }
 
-// The order with what lies below v, away from `from`, and then v; to a depth of k.
-fn visit(t: &[[u8; 8]; 64], v: u8, from: u8, k: usize, o: Order) -> Order
+// What lies below v, away from `from`, and then v, to a depth of k, behind the `len` vertices that `at` holds: how many it holds then.
+fn visit(t: &[[u8; 8]; 64], v: u8, from: u8, k: usize, at: &mut [u8; 64], len: usize) -> usize
     requires { ⌜ v < vertexLimit ⌝ }
-    ensures { λ r. ⌜ ((l : List ℕ) → Holds vertexLimit noVertex l (o .at) (o .len) → Holds vertexLimit noVertex (l ++ post (now (t .entry)) k v from) (r .at) (r .len)) ⌝ }
+    ensures { λ r. ⌜ ((l : List ℕ) → Holds vertexLimit noVertex l (now (at .entry)) len → Holds vertexLimit noVertex (l ++ post (now (t .entry)) k v from) (now (at .exit)) r) ⌝ }
 {
     if k == 0 {
-        return o;
+        return len;
     }
-    let mut r = o;
+    let mut n = len;
     let mut i: usize = 0;
     while i < model::Limits::PLACES {
         let w = t[v as usize][i];
         if (w < model::Limits::VERTICES) & (w != from) {
-            let q = visit(t, w, v, k - 1, r);
-            r = q;
+            let q = visit(t, w, v, k - 1, at, n);
+            n = q;
         }
         i += 1;
     }
-    push(r, v)
+    push(at, n, v)
 }
 
 // The vertices in postorder from vertex 0, children ascending.
 pub fn postorder(t: &[[u8; 8]; 64]) -> Order
     ensures { λ r. ⌜ OrderOf (now (t .entry)) (r .at) (r .len) ⌝ }
 {
-    let o = Order {
-        at: [model::Limits::NONE; 64],
-        len: 0,
-    };
-    visit(t, 0, 0, model::Limits::ROWS, o)
+    let mut at = [model::Limits::NONE; 64];
+    let len = visit(t, 0, 0, model::Limits::ROWS, &mut at, 0);
+    Order { at: at, len: len }
 }
 
 // Each vertex's place in an order of different vertices.

@@ -58,7 +58,8 @@ pub fn write_certificate(
     if item != 0 {
         return WriteAnswer::Refused(item);
     }
-    let plan = make(recorded, found);
+    let mut plan = [[0u8; 8]; 512];
+    make(&mut plan, recorded, found);
     let places = places_of(recorded, found, &plan);
     let l = begin(&places, vertex_count(recorded));
     if certificate.len() < l {

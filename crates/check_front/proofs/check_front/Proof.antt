@@ -1,5 +1,5 @@
 -- `check_front` meets its contract: the items 1 to 12, then the plan is made and handed to the items 20 to 22. Assumes nothing.
-use mathlib.Core.Path.{_≡_, sym, _∙_}
+use mathlib.Core.Path.{_≡_, sym, _∙_, refl}
 use Prim.Native.Nat.{_≤_}
 use native.Mathlib.Omega.{arith}
 use borrow.Author.Needs.{needs}
@@ -35,20 +35,20 @@ returns : tie.Need-returns
 returns c = checked-input _ _ _ _ _ (c .before .before .before .before .before .before .pre) _ (c .if1 .taken) (c .before .input-item .ensures)
 
 make-requires : tie.Need-make-requires
-make-requires c κs = sound c
+make-requires c κs = (refl, sound (c .before))
 
 front-item-requires : tie.Need-front-item-requires
 front-item-requires c κs =
     let m = c .before in
-    (record { passes = zero (m .before); planned = m .make .ensures }, start (m .before) .pre)
+    (record { passes = zero (m .before .before); planned = m .make .ensures }, start (m .before .before) .pre)
 
 vertex-count-requires : tie.Need-vertex-count-requires
-vertex-count-requires c κs = whole (accepted (c .before .before .before) .recorded .ends)
+vertex-count-requires c κs = whole (accepted (c .before .before .before .before) .recorded .ends)
 
 -- where the records begin
 module _ (c : tie.After-vertex-count) where
   abbrev last : tie.Else1
-  last = c .before .before .before .before
+  last = c .before .before .before .before .before
 
   few : c .vertex-count .result ≤ vertexLimit
   few = rw (c .vertex-count .ensures) (accepted last .recorded .ends .few)

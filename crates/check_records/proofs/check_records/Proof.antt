@@ -1,5 +1,5 @@
 -- `check_records` keeps a refusal, or tests the items 23 and 24. Assumes nothing.
-use mathlib.Core.Path.{_≡_, _∙_}
+use mathlib.Core.Path.{_≡_, _∙_, refl}
 use Rattle.formats.specs.Inputs.{Accepted, input-accepted}
 use Rattle.check_front.specs.Front.{FrontPassed}
 use Rattle.check_records.specs.Items.{front-long, records-last}
@@ -22,15 +22,15 @@ returns : tie.Need-returns
 returns c = c .before .before .before .before .before .pre .refused (c .if1 .taken)
 
 make-requires : tie.Need-make-requires
-make-requires c κs = let a = accepted c in (record { K = _; L = _; passed = a .recorded }, record { K = _; L = _; passed = a .found })
+make-requires c κs = let a = accepted (c .before) in (refl, (record { K = _; L = _; passed = a .recorded }, record { K = _; L = _; passed = a .found }))
 
 records-item-requires : tie.Need-records-item-requires
 records-item-requires c κs =
-    let e = c .before .before in
+    let e = c .before .before .before in
     (record { passes = passed e .input; planned = c .before .make .ensures }, front-long (passed e))
 
 returns-2 : tie.Need-returns-2
-returns-2 c = c .records-item .ensures ∙ records-last (passed (c .before .before .before))
+returns-2 c = c .records-item .ensures ∙ records-last (passed (c .before .before .before .before))
 
 pub check-records-spec : {M : Type 1} → statement M
 check-records-spec = tie.close (tie.spec returns make-requires records-item-requires returns-2)

@@ -27,12 +27,12 @@ returns c =
     record { refused = λ n. record { given = ap Refused q; number = refused-number (ap Refused q); weighs = refused-weight (ap Refused q); work-kept = refl; mapping-kept = refl }; finished = λ z. absurd (c .if1 .taken (q ∙ z)) }
 
 make-requires : tie.Need-make-requires
-make-requires c κs = (recorded-sound _ _ _ (passing c), found-sound _ _ _ (passing c))
+make-requires c κs = (refl, (recorded-sound _ _ _ (passing (c .before)), found-sound _ _ _ (passing (c .before))))
 
 finish-ready-requires : tie.Need-finish-ready-requires
 finish-ready-requires c κs =
     let m = c .before .before in
-    (record { passes = passing (m .before); planned = m .make .ensures }, zero (m .before))
+    (record { passes = passing (m .before .before); planned = m .make .ensures }, zero (m .before .before))
 
 returns-2 : tie.Need-returns-2
 returns-2 c = c .before .before .finish-ready .ensures

@@ -34,18 +34,18 @@ returns c =
     record { refused = λ n. record { given = ap Refused e; number = refused-number (ap Refused e); weighs = refused-weight (ap Refused e); work-kept = refl; mapping-kept = refl }; matched = λ z. absurd (c .if1 .taken (e ∙ z)) }
 
 make-requires : tie.Need-make-requires
-make-requires c κs = (recorded-sound _ _ _ (passed c .0), found-sound _ _ _ (passed c .0))
+make-requires c κs = (refl, (recorded-sound _ _ _ (passed (c .before) .0), found-sound _ _ _ (passed (c .before) .0)))
 
 solve-and-read-requires : tie.Need-solve-and-read-requires
 solve-and-read-requires c κs =
     let at-make = c .before .before .before in
-    let p = passed (at-make .before) in
+    let p = passed (at-make .before .before) in
     (record { passes = p .0; planned = at-make .make .ensures }, (record { enough = p .1 }, p .2))
 
 returns-2 : tie.Need-returns-2
 returns-2 c =
     let at-solve = c .before .before .before in
-    let e = at-solve .before .before .before .before .before in
+    let e = at-solve .before .before .before .before .before .before in
     let s = at-solve .solve-and-read .ensures in
     let w = at-solve .solve-and-read .result in
     let q : toZ w32 (ofZ w32 w) ≡ w = back {z = w} (at-solve .solve-and-read .ok) in
