@@ -145,7 +145,8 @@ pub fn shape_ok(recorded: &[u8], found: &[u8], plan: &[[u8; 8]; 512], z: &[u8], 
 {
     let n = vertex_count(recorded);
     let m = vertex_count(found);
-    let places = places_of(recorded, found, plan);
+    let mut places = [[0usize; 2]; 65];
+    places_of(&mut places, recorded, found, plan);
     let long = begin(&places, n);
     if z.len() != long {
         return false;

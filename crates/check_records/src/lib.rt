@@ -31,7 +31,8 @@ fn records_item(
     requires { ⌜ length (now certificate) ≡ certificateLength (now recorded) (now found) ⌝ }
     ensures { λ r. ⌜ r ≡ recordsItem (now (table .entry)) (now (recorded .entry)) (now (found .entry)) (now (certificate .entry)) ⌝ }
 {
-    let places = places_of(recorded, found, plan);
+    let mut places = [[0usize; 2]; 65];
+    places_of(&mut places, recorded, found, plan);
     let ok = records_ok(table, recorded, found, plan, &places, certificate);
     if !ok {
         return 23;

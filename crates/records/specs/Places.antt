@@ -76,8 +76,11 @@ pub squares-first : (f : List ℕ) → 0 ≡ squares f 0
 unfolding squares
 squares-first f = refl
 
-pub squares-none : (f : List ℕ) (places : List (List ℕ)) → length places ≡ 65 → squaresIn places 0 ≡ 0 → SquaresTo f 0 places
-squares-none f places e z = record { long = e; get = λ v h. let q : v ≡ 0 = omega arith in rw q (z ∙ squares-first f) }
+pub squares-none : (f : List ℕ) (places : List (List ℕ)) → length places ≡ 65 → SquaresTo f 0 (set places 0 (0 ∷ 0 ∷ []))
+squares-none f places e = record {
+  long = length-set places 0 (0 ∷ 0 ∷ []) ∙ e;
+  get = λ v h. let q : v ≡ 0 = omega arith in rw (q, getD-set-same places 0 (0 ∷ 0 ∷ []) [] (omega arith)) (squares-first f);
+}
 
 -- ---- of both trees
 

@@ -13,7 +13,7 @@ ghost use Rattle.model.specs.Limits.{vertexLimit, degreeLimit, certificateLimit
 ghost use Rattle.model.specs.Tree.{count};
 ghost use Rattle.model.specs.Graph.{neighbours};
 ghost use Rattle.model.specs.Order.{width, offset};
-ghost use Rattle.model.specs.Certificate.{certificateLength, recordAt};
+ghost use Rattle.model.specs.Certificate.{recordAt};
 ghost use Rattle.plan.specs.Plan.{childCountIn, orderIn};
 ghost use Rattle.certificate.specs.Places.{othersBefore};
 ghost use Rattle.records.specs.Places.{beginIn, squaresIn, Inputs, SquaresTo, Laid, RowBegins};
@@ -81,12 +81,13 @@ pub fn size(plan: &[[u8; 8]; 512], i: usize) -> usize
 }
 
 // The sums of squares, each in its place.
-fn square_sums(recorded: &[u8], found: &[u8], plan: &[[u8; 8]; 512]) -> [[usize; 2]; 65]
+fn square_sums(p: &mut [[usize; 2]; 65], recorded: &[u8], found: &[u8], plan: &[[u8; 8]; 512])
+    requires { ⌜ length (now p) ≡ 65 ⌝ }
     requires { ⌜ Inputs (now recorded) (now found) (now plan) ⌝ }
-    ensures { λ r. ⌜ SquaresTo (now (found .entry)) (count (now (found .entry))) r ⌝ }
+    ensures { λ _. ⌜ SquaresTo (now (found .entry)) (count (now (found .entry))) (now (p .exit)) ⌝ }
 {
     let m = vertex_count(found);
-    let mut p = [[0usize; 2]; 65];
+    p[0] = [0, 0];
     let mut sum: usize = 0;
     let mut v: usize = 0;
     while v < m {
@@ -95,18 +96,18 @@ fn square_sums(recorded: &[u8], found: &[u8], plan: &[[u8; 8]; 512]) -> [[usize;
         p[v + 1] = [0, sum];
         v += 1;
     }
-    p
 }
 
-// Where the records stand.
-pub fn places_of(recorded: &[u8], found: &[u8], plan: &[[u8; 8]; 512]) -> [[usize; 2]; 65]
+// Where the records stand, over whatever stood there.
+pub fn places_of(p: &mut [[usize; 2]; 65], recorded: &[u8], found: &[u8], plan: &[[u8; 8]; 512])
+    requires { ⌜ length (now p) ≡ 65 ⌝ }
     requires { ⌜ Inputs (now recorded) (now found) (now plan) ⌝ }
-    ensures { λ r. ⌜ Laid (now (recorded .entry)) (now (found .entry)) (now (plan .entry)) r ⌝ }
+    ensures { λ _. ⌜ Laid (now (recorded .entry)) (now (found .entry)) (now (plan .entry)) (now (p .exit)) ⌝ }
 {
     let n = vertex_count(recorded);
     let m = vertex_count(found);
     let w = width_of(found);
-    let mut p = square_sums(recorded, found, plan);
+    square_sums(p, recorded, found, plan);
     let all = p[m][1];
     let mut at = 8 + 3 * n;
     p[0] = [at, 0];
@@ -117,16 +118,6 @@ pub fn places_of(recorded: &[u8], found: &[u8], plan: &[[u8; 8]; 512]) -> [[usiz
         p[i + 1] = [at, s];
         i += 1;
     }
-    p
-}
-
-// The length of a certificate: where the last records end.
-pub fn certificate_length(recorded: &[u8], found: &[u8], plan: &[[u8; 8]; 512]) -> usize
-    requires { ⌜ Inputs (now recorded) (now found) (now plan) ⌝ }
-    ensures { λ r. ⌜ (r ≡ certificateLength (now (recorded .entry)) (now (found .entry))) × (r ≤ certificateLimit) ⌝ }
-{
-    let places = places_of(recorded, found, plan);
-    begin(&places, vertex_count(recorded))
 }
 
 // Where the record of the i-th vertex in postorder, v, and the q-th choice of s for v begins; the vertex's records begin at `first` and have `own` bytes

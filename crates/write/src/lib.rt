@@ -60,7 +60,8 @@ pub fn write_certificate(
     }
     let mut plan = [[0u8; 8]; 512];
     make(&mut plan, recorded, found);
-    let places = places_of(recorded, found, &plan);
+    let mut places = [[0usize; 2]; 65];
+    places_of(&mut places, recorded, found, &plan);
     let l = begin(&places, vertex_count(recorded));
     if certificate.len() < l {
         return WriteAnswer::Refused(19);

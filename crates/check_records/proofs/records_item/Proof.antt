@@ -11,12 +11,12 @@ use Rattle.check_records.proofs.records_item.Statement.{statement}
 use Rattle.check_records.proofs.records_item.Tie as tie
 
 -- item 24's test is the model's
-same : (c : tie.After-is-sum) → let a = c .before .before .before .before .before .before .before .before .before .before .before .before .before .args in c .is-sum .result ≡ eqZ (weightIn (a .certificate .now)) (largest (a .recorded .now) (a .found .now) (valueOf (a .recorded .now) (a .found .now) (a .certificate .now)))
+same : (c : tie.After-is-sum) → let a = c .before .before .before .before .before .before .before .before .before .before .before .before .before .before .args in c .is-sum .result ≡ eqZ (weightIn (a .certificate .now)) (largest (a .recorded .now) (a .found .now) (valueOf (a .recorded .now) (a .found .now) (a .certificate .now)))
 same c =
     let w = c .before in
     let x = w .before in
     let g = x .before in
-    let a = g .before .before .before .before .before .before .before .before .before .before .args in
+    let a = g .before .before .before .before .before .before .before .before .before .before .before .args in
     let d : Same (x .int32-at .result) = back (x .int32-at .ok) in
     (rw (d, x .int32-at .ensures, w .wide .ensures) at (c .is-sum .ensures)) ∙ zero-sum _ _ _ (most-largest (a .recorded .now) (a .found .now) (a .certificate .now) (g .greatest .result) (g .greatest .ensures .0))
 
@@ -35,7 +35,7 @@ greatest-requires c κs = search needs
 
 int32-at-requires : tie.Need-int32-at-requires
 int32-at-requires c κs =
-    let s = c .before .before .before .before .before .before .before .before .before .before in
+    let s = c .before .before .before .before .before .before .before .before .before .before .before in
     let a = s .args in
     long-head (a .recorded .now) (a .found .now) (a .certificate .now) (s .pre .1)
 

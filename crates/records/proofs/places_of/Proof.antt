@@ -13,112 +13,91 @@ use Rattle.records.proofs.places_of.Statement.{statement}
 use Rattle.records.proofs.places_of.Tie as tie
 
 abbrev Inv-loop : tie.InvT-loop
-Inv-loop recorded found plan n m w p₀ all at₀ i₀ p at i = (i ≤ n) × (n ≡ count recorded) × (n ≤ vertexLimit) × (w ≡ width found) × (all ≡ squares found (count found)) × (at ≡ recordAt recorded found (i * width found)) × PlacesTo recorded found i p
+Inv-loop p₀ recorded found plan n m w all at₀ i₀ p at i = (i ≤ n) × (n ≡ count recorded) × (n ≤ vertexLimit) × (w ≡ width found) × (all ≡ squares found (count found)) × (at ≡ recordAt recorded found (i * width found)) × PlacesTo recorded found i p
 
 abbrev μ-loop : tie.MeasureT-loop
-μ-loop recorded found plan n m w p₀ all at₀ i₀ p at i = n - i
+μ-loop p₀ recorded found plan n m w all at₀ i₀ p at i = n - i
 
 vertex-count-requires : tie.Need-vertex-count-requires Inv-loop μ-loop
-vertex-count-requires c κs = whole (inputs-recorded (c .before .before .pre) .passed .ends)
+vertex-count-requires c κs = whole (inputs-recorded (c .before .before .pre .1) .passed .ends)
 
 vertex-count-requires-2 : tie.Need-vertex-count-requires-2 Inv-loop μ-loop
-vertex-count-requires-2 c κs = whole (inputs-found (c .before .before .before .pre) .passed .ends)
+vertex-count-requires-2 c κs = whole (inputs-found (c .before .before .before .pre .1) .passed .ends)
 
 width-of-requires : tie.Need-width-of-requires Inv-loop μ-loop
-width-of-requires c κs = inputs-found (c .before .before .before .before .pre)
+width-of-requires c κs = inputs-found (c .before .before .before .before .pre .1)
 
 square-sums-requires : tie.Need-square-sums-requires Inv-loop μ-loop
-square-sums-requires c κs = c .before .before .before .before .before .pre
+square-sums-requires c κs = c .before .before .before .before .before .before .pre
 
 mul-all : tie.Need-mul-all Inv-loop μ-loop
-mul-all c = omega (arith, inputs-few (c .before .before .before .before .before .before .pre) .1)
+mul-all c = omega (arith, inputs-few (c .before .before .before .before .before .before .before .pre .1) .1)
 
 index-1-all : tie.Need-index-1-all Inv-loop μ-loop
-index-1-all c = omega (arith, inputs-few (c .before .before .before .before .before .before .pre) .1)
-
-index-2-all : tie.Need-index-2-all Inv-loop μ-loop
-index-2-all c = search needs
+index-1-all c = omega (arith, inputs-few (c .before .before .before .before .before .before .before .pre .1) .1)
 
 mul-at : tie.Need-mul-at Inv-loop μ-loop
-mul-at c = omega (arith, inputs-few (c .before .before .before .before .before .before .before .pre) .0)
+mul-at c = omega (arith, inputs-few (c .before .before .before .before .before .before .before .before .pre .1) .0)
 
 add-at : tie.Need-add-at Inv-loop μ-loop
-add-at c = omega (arith, inputs-few (c .before .before .before .before .before .before .before .pre) .0)
-
-array-set-from-p : tie.Need-array-set-from-p Inv-loop μ-loop
-array-set-from-p c = search needs
+add-at c = omega (arith, inputs-few (c .before .before .before .before .before .before .before .before .pre .1) .0)
 
 loop-holds : tie.Need-loop-holds Inv-loop μ-loop
 loop-holds c =
     let s = c .before in
-    let w = s .before in
+    let w = s .before .before in
     let m = w .before in
     let n = m .before in
-    let p = n .before .before .before .pre in
+    let p = n .before .before .before .pre .1 in
     let en = n .vertex-count .ensures in
     (omega arith, en, omega (arith, inputs-few p .0), w .width-of .ensures .0, squares-last p _ (m .vertex-count2 .ensures) (s .square-sums .ensures), places-first p _ en, places-none p _ (places-first p _ en) (s .square-sums .ensures))
 
 size-requires : tie.Need-size-requires Inv-loop μ-loop
 size-requires c κs =
     let l = c .before in
-    let p = l .before .before .before .before .before .before .before .before .pre in
+    let p = l .before .before .before .before .before .before .before .before .before .pre .1 in
     size-known p _ (omega (arith, l .loop .inv .1))
 
 mul-at-2 : tie.Need-mul-at-2 Inv-loop μ-loop
 mul-at-2 c =
     let l = c .before .before in
-    let p = l .before .before .before .before .before .before .before .before .pre in
+    let p = l .before .before .before .before .before .before .before .before .before .pre .1 in
     let h = places-next p _ _ _ _ _ (omega (arith, l .loop .inv .1)) (l .loop .inv .3) (c .size .ensures) (l .loop .inv .4) (l .loop .inv .5) in
     omega (arith, h .0, h .1)
 
 add-at-2 : tie.Need-add-at-2 Inv-loop μ-loop
 add-at-2 c =
     let l = c .before .before in
-    let p = l .before .before .before .before .before .before .before .before .pre in
+    let p = l .before .before .before .before .before .before .before .before .before .pre .1 in
     let h = places-next p _ _ _ _ _ (omega (arith, l .loop .inv .1)) (l .loop .inv .3) (c .size .ensures) (l .loop .inv .4) (l .loop .inv .5) in
     omega (arith, h .0, h .1)
 
 mul-at-3 : tie.Need-mul-at-3 Inv-loop μ-loop
 mul-at-3 c =
     let l = c .before .before in
-    let p = l .before .before .before .before .before .before .before .before .pre in
+    let p = l .before .before .before .before .before .before .before .before .before .pre .1 in
     let h = places-next p _ _ _ _ _ (omega (arith, l .loop .inv .1)) (l .loop .inv .3) (c .size .ensures) (l .loop .inv .4) (l .loop .inv .5) in
     omega (arith, h .0, h .1)
 
 add-at-3 : tie.Need-add-at-3 Inv-loop μ-loop
 add-at-3 c =
     let l = c .before .before in
-    let p = l .before .before .before .before .before .before .before .before .pre in
+    let p = l .before .before .before .before .before .before .before .before .before .pre .1 in
     let h = places-next p _ _ _ _ _ (omega (arith, l .loop .inv .1)) (l .loop .inv .3) (c .size .ensures) (l .loop .inv .4) (l .loop .inv .5) in
     omega (arith, h .0, h .1)
-
-mul-s : tie.Need-mul-s Inv-loop μ-loop
-mul-s c = search needs
-
-index-1-s : tie.Need-index-1-s Inv-loop μ-loop
-index-1-s c = search needs
-
-index-2-s : tie.Need-index-2-s Inv-loop μ-loop
-index-2-s c = search needs
-
-mul-p : tie.Need-mul-p Inv-loop μ-loop
-mul-p c = search needs
-
-array-set-from-p-2 : tie.Need-array-set-from-p-2 Inv-loop μ-loop
-array-set-from-p-2 c = search needs
 
 loop-again : tie.Need-loop-again Inv-loop μ-loop
 loop-again c =
     let l = c .before .before .before in
-    let p = l .before .before .before .before .before .before .before .before .pre in
+    let p = l .before .before .before .before .before .before .before .before .before .pre .1 in
     let h = places-next p _ _ _ _ _ (omega (arith, l .loop .inv .1)) (l .loop .inv .3) (c .before .size .ensures) (l .loop .inv .4) (l .loop .inv .5) in
     (omega arith, l .loop .inv .1, l .loop .inv .2, l .loop .inv .3, l .loop .inv .4, h .0, places-more p _ _ _ (omega (arith, l .loop .inv .1)) (l .loop .inv .6) (h .0) refl)
 
 returns : tie.Need-returns Inv-loop μ-loop
 returns c =
     let l = c .before in
-    let p = l .before .before .before .before .before .before .before .before .pre in
-    let e : l .loop .i ≡ l .before .before .before .before .before .vertex-count .result = omega arith in
+    let p = l .before .before .before .before .before .before .before .before .before .pre .1 in
+    let e : l .loop .i ≡ l .before .before .before .before .before .before .vertex-count .result = omega arith in
     record { inputs = p; at = rw (e, l .loop .inv .1) at (l .loop .inv .6) }
 
 pub places-of-spec : {M : Type 1} → statement M
@@ -133,10 +112,10 @@ places-of-spec =
     square-sums-requires
     mul-all
     index-1-all
-    index-2-all
+    (λ c. search needs)
     mul-at
     add-at
-    array-set-from-p
+    (λ c. search needs)
     loop-holds
     size-requires
     mul-at-2
@@ -144,12 +123,12 @@ places-of-spec =
     mul-at-3
     add-at-3
     (λ c. search needs)
-    mul-s
-    index-1-s
-    index-2-s
     (λ c. search needs)
-    mul-p
-    array-set-from-p-2
+    (λ c. search needs)
+    (λ c. search needs)
+    (λ c. search needs)
+    (λ c. search needs)
+    (λ c. search needs)
     (λ c. search needs)
     (λ c. search needs)
     loop-again

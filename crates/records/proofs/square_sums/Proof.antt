@@ -12,19 +12,19 @@ use Rattle.records.proofs.square_sums.Statement.{statement}
 use Rattle.records.proofs.square_sums.Tie as tie
 
 abbrev Inv-loop : tie.InvT-loop
-Inv-loop recorded found plan m p₀ sum₀ v₀ p sum v = (v ≤ m) × (m ≡ count found) × (m ≤ vertexLimit) × (sum ≡ squares found v) × SquaresTo found v p
+Inv-loop p₀ recorded found plan m sum₀ v₀ p sum v = (v ≤ m) × (m ≡ count found) × (m ≤ vertexLimit) × (sum ≡ squares found v) × SquaresTo found v p
 
 abbrev μ-loop : tie.MeasureT-loop
-μ-loop recorded found plan m p₀ sum₀ v₀ p sum v = m - v
+μ-loop p₀ recorded found plan m sum₀ v₀ p sum v = m - v
 
 vertex-count-requires : tie.Need-vertex-count-requires Inv-loop μ-loop
-vertex-count-requires c κs = whole (inputs-found (c .before .before .pre) .passed .ends)
+vertex-count-requires c κs = whole (inputs-found (c .before .before .pre .1) .passed .ends)
 
 loop-holds : tie.Need-loop-holds Inv-loop μ-loop
 loop-holds c =
-    let p = c .before .before .before .pre in
+    let p = c .before .before .before .pre .1 in
     let e = c .vertex-count .ensures in
-    (omega arith, e, omega (arith, e, inputs-few p .1), squares-first _, squares-none _ _ refl refl)
+    (omega arith, e, omega (arith, e, inputs-few p .1), squares-first _, squares-none _ (c .before .before .before .args .p .now) (c .before .before .before .pre .0))
 
 cast-degree : tie.Need-cast-degree Inv-loop μ-loop
 cast-degree c = search needs
@@ -35,27 +35,21 @@ degree-requires c κs = search needs
 mul-sum : tie.Need-mul-sum Inv-loop μ-loop
 mul-sum c =
     let l = c .before .before in
-    let p = l .before .before .before .before .pre in
+    let p = l .before .before .before .before .pre .1 in
     let h = squares-next p _ _ _ (omega (arith, l .loop .inv .1)) (c .degree .ensures) (l .loop .inv .3) in
     omega (arith, h .0, h .1)
 
 add-sum : tie.Need-add-sum Inv-loop μ-loop
 add-sum c =
     let l = c .before .before in
-    let p = l .before .before .before .before .pre in
+    let p = l .before .before .before .before .pre .1 in
     let h = squares-next p _ _ _ (omega (arith, l .loop .inv .1)) (c .degree .ensures) (l .loop .inv .3) in
     omega (arith, h .0, h .1)
-
-mul-p : tie.Need-mul-p Inv-loop μ-loop
-mul-p c = search needs
-
-array-set-from-p : tie.Need-array-set-from-p Inv-loop μ-loop
-array-set-from-p c = search needs
 
 loop-again : tie.Need-loop-again Inv-loop μ-loop
 loop-again c =
     let l = c .before .before in
-    let p = l .before .before .before .before .pre in
+    let p = l .before .before .before .before .pre .1 in
     let h = squares-next p _ _ _ (omega (arith, l .loop .inv .1)) (c .degree .ensures) (l .loop .inv .3) in
     (omega arith, l .loop .inv .1, l .loop .inv .2, h .0, squares-more p _ _ (omega (arith, l .loop .inv .1)) (l .loop .inv .4) (h .0))
 
@@ -69,14 +63,15 @@ square-sums-spec =
     Inv-loop
     μ-loop
     vertex-count-requires
+    (λ c. search needs)
     loop-holds
     cast-degree
     degree-requires
     mul-sum
     add-sum
     (λ c. search needs)
-    mul-p
-    array-set-from-p
+    (λ c. search needs)
+    (λ c. search needs)
     (λ c. search needs)
     (λ c. search needs)
     loop-again

@@ -30,8 +30,8 @@ passed c = let a = c .before .before .before .before .before .before .before .ar
 ready : (c : tie.After-make) → let a = c .before .before .before .before .before .before .before .before .before .args in Ready (a .table .now) (a .recorded .now) (a .found .now) (c .make .last .0)
 ready c = record { passes = passed (c .before .before) .0; planned = c .make .ensures }
 
-long : (c : tie.After-begin) → let a = c .before .before .before .before .before .before .before .before .before .before .before .before .before .before .args in c .begin .result ≡ certificateLength (a .recorded .now) (a .found .now)
-long c = rw (c .before .vertex-count .ensures) at (c .begin .ensures) ∙ places-end (ready-inputs (ready (c .before .before .before .before .before))) (c .before .before .before .places-of .ensures .at)
+long : (c : tie.After-begin) → let a = c .before .before .before .before .before .before .before .before .before .before .before .before .before .before .before .args in c .begin .result ≡ certificateLength (a .recorded .now) (a .found .now)
+long c = rw (c .before .vertex-count .ensures) at (c .begin .ensures) ∙ places-end (ready-inputs (ready (c .before .before .before .before .before .before))) (c .before .before .before .places-of .ensures .at)
 
 start-item-requires : tie.Need-start-item-requires
 start-item-requires c κs = search needs
@@ -51,17 +51,17 @@ make-requires : tie.Need-make-requires
 make-requires c κs = (refl, (recorded-sound _ _ _ (passed (c .before) .0), found-sound _ _ _ (passed (c .before) .0)))
 
 places-of-requires : tie.Need-places-of-requires
-places-of-requires c κs = ready-inputs (ready (c .before))
+places-of-requires c κs = (refl, ready-inputs (ready (c .before .before)))
 
 vertex-count-requires : tie.Need-vertex-count-requires
-vertex-count-requires c κs = whole (ready-recorded (ready (c .before .before .before)) .passed .ends)
+vertex-count-requires c κs = whole (ready-recorded (ready (c .before .before .before .before)) .passed .ends)
 
 begin-requires : tie.Need-begin-requires
-begin-requires c κs = omega (arith, c .vertex-count .ensures, inputs-few (ready-inputs (ready (c .before .before .before .before))) .0)
+begin-requires c κs = omega (arith, c .vertex-count .ensures, inputs-few (ready-inputs (ready (c .before .before .before .before .before))) .0)
 
 returns-2 : tie.Need-returns-2
 returns-2 c =
-    let e = c .before .before .before .before .before .before .before .before in
+    let e = c .before .before .before .before .before .before .before .before .before in
     let a = e .before .before .before .before .before .before .before .args in
     let w = write-room (a .table .now) (a .recorded .now) (a .found .now) (a .work .now) (a .certificate .now) (zero e) (let l = long (c .before) in omega (arith, c .if2 .taken)) in
     let g = ap Refused (sym w) in
@@ -73,18 +73,18 @@ returns-2 c =
 solve-and-write-requires : tie.Need-solve-and-write-requires
 solve-and-write-requires c κs =
     let at-begin = c .before .before .before .before .before in
-    let at-make = at-begin .before .before .before .before .before in
+    let at-make = at-begin .before .before .before .before .before .before in
     (ready at-make, (at-begin .before .before .before .places-of .ensures, (record { enough = passed (at-make .before .before) .1 }, (let l = long at-begin in omega (arith, c .before .before .before .before .if2 .left)))))
 
 cast-length : tie.Need-cast-length
 cast-length c =
     let at-begin = c .before .before .before .before .before .before .before .before .before in
-    omega (arith, long at-begin, inputs-length (ready-inputs (ready (at-begin .before .before .before .before .before))))
+    omega (arith, long at-begin, inputs-length (ready-inputs (ready (at-begin .before .before .before .before .before .before))))
 
 returns-3 : tie.Need-returns-3
 returns-3 c =
     let at-begin = c .before .before .before .before .before .before .before .before .before in
-    let e = at-begin .before .before .before .before .before .before .before in
+    let e = at-begin .before .before .before .before .before .before .before .before in
     let a = e .before .before .before .before .before .before .before .args in
     let s = c .before .before .before .solve-and-write .ensures in
     let w = write-none (a .table .now) (a .recorded .now) (a .found .now) (a .work .now) (a .certificate .now) (zero e) (let l = long at-begin in omega (arith, c .before .before .before .before .before .before .before .before .if2 .left)) in

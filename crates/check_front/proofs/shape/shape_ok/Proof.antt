@@ -1,6 +1,6 @@
 -- `shape_ok` meets its contract: the right length puts every mark inside. Assumes nothing.
 use Prim.Native.Nat.{ℕ}
-use mathlib.Core.Path.{_≡_, sym, ap, _∙_}
+use mathlib.Core.Path.{_≡_, refl, sym, ap, _∙_}
 use native.Mathlib.Omega.{arith}
 use borrow.Author.Needs.{needs}
 use lib.ListN.{length}
@@ -18,15 +18,15 @@ vertex-count-requires-2 : tie.Need-vertex-count-requires-2
 vertex-count-requires-2 c κs = whole (inputs-found (c .before .before .before .before .pre .0) .passed .ends)
 
 places-of-requires : tie.Need-places-of-requires
-places-of-requires c κs = c .before .before .before .before .before .pre .0
+places-of-requires c κs = (refl, c .before .before .before .before .before .before .pre .0)
 
 begin-requires : tie.Need-begin-requires
-begin-requires c κs = let v = c .before .before .before in omega (arith, v .vertex-count .ensures, inputs-few (v .before .before .before .before .pre .0) .0)
+begin-requires c κs = let v = c .before .before .before .before in omega (arith, v .vertex-count .ensures, inputs-few (v .before .before .before .before .pre .0) .0)
 
 -- where the last records end
 module _ (c : tie.After-begin) where
   abbrev n : tie.After-vertex-count
-  n = c .before .before .before .before
+  n = c .before .before .before .before .before
 
   abbrev start : tie.Start
   start = n .before .before .before .before
@@ -34,7 +34,7 @@ module _ (c : tie.After-begin) where
   right : c .begin .result ≡ certificateLength (start .args .recorded .now) (start .args .found .now)
   right =
       let p = c .before .before .places-of in
-      c .begin .ensures ∙ ap (λ (x : ℕ). beginIn (p .result) x) (n .vertex-count .ensures) ∙ places-end (p .ensures .inputs) (p .ensures .at)
+      c .begin .ensures ∙ ap (λ (x : ℕ). beginIn (p .last .0) x) (n .vertex-count .ensures) ∙ places-end (p .ensures .inputs) (p .ensures .at)
 
 -- after the test of the length
 module _ (c : tie.Else1) where
@@ -71,7 +71,7 @@ returns-2 : tie.Need-returns-2
 returns-2 c =
     let p = c .before .before in
     let e = p .before .before in
-    let m = e .before .before .before .before in
+    let m = e .before .before .before .before .before in
     shape-whole _ _ _ _ (m .before .vertex-count .result) (m .vertex-count2 .result) (p .before .is-head .result) (p .partners-marked .result) (c .records-marked .result)
     (s e .pre .1) (m .before .vertex-count .ensures) (m .vertex-count2 .ensures) (long e) (p .before .is-head .ensures) (p .partners-marked .ensures) (c .records-marked .ensures)
 
