@@ -12,7 +12,7 @@
  * Work numbers, and the mapping or certificate that a call writes, may have more room than needed: what lies behind is left as it was. A table, a tree, and
  * a certificate that is checked are refused if their count is not exactly their length: to check what was written, pass the length that was given back.
  *
- * The calls need stack: up to 88,000 bytes on x86-64, most for two equal paths of 64 vertices (docs/BENCHMARKS.md).
+ * The calls need stack: up to 65,000 bytes on x86-64, most for two equal paths of 64 vertices (docs/BENCHMARKS.md).
  *
  * There are n(3m - 2) subproblems, never more than 12,160. */
 #ifndef PENSUMMER_H
