@@ -40,12 +40,7 @@ is-forbidden-requires c κs = search needs
 
 repeat-requires : tie.Need-repeat-requires Inv-loop μ-loop
 repeat-requires c κs =
-    let at-forbidden = c .before .before in
-    let at-degree = at-forbidden .before in
-    let at-children = at-degree .before in
-    let at-pair = at-children .before in
-    let s = at-pair .before .before .before .before in
-    let p = s .pre in
+    let p = c .before .before .before .before .before .before .before .before .before .pre in
     omega (arith, p .1 .1 .enough, p .1 .0 .enough)
 
 same-length : tie.Need-same-length Inv-loop μ-loop
@@ -64,12 +59,7 @@ stored-value-requires c κs =
 
 repeat-requires-2 : tie.Need-repeat-requires-2 Inv-loop μ-loop
 repeat-requires-2 c κs =
-    let at-forbidden = c .before .before .before .before in
-    let at-degree = at-forbidden .before in
-    let at-children = at-degree .before in
-    let at-pair = at-children .before in
-    let s = at-pair .before .before .before .before in
-    let p = s .pre in
+    let p = c .before .before .before .before .before .before .before .before .before .before .before .pre in
     omega (arith, p .1 .1 .enough, p .1 .0 .enough)
 
 same-length-2 : tie.Need-same-length-2 Inv-loop μ-loop
@@ -90,12 +80,7 @@ returns-2 c =
 
 gains-requires : tie.Need-gains-requires Inv-loop μ-loop
 gains-requires c κs =
-    let at-forbidden = c .before .before .before .before in
-    let at-degree = at-forbidden .before in
-    let at-children = at-degree .before in
-    let at-pair = at-children .before in
-    let s = at-pair .before .before .before .before in
-    let p = s .pre in
+    let p = c .before .before .before .before .before .before .before .before .before .before .before .pre in
     (refl, (p .0, (p .1 .0, p .1 .1 .pair)))
 
 loop-holds : tie.Need-loop-holds Inv-loop μ-loop
@@ -103,14 +88,7 @@ loop-holds c = (omega arith, fill-none _ _ _ _ _)
 
 add-heaviest : tie.Need-add-heaviest Inv-loop μ-loop
 add-heaviest c =
-    let l = c .before .before in
-    let at-gains = l .before in
-    let at-forbidden = at-gains .before .before .before .before .before in
-    let at-degree = at-forbidden .before in
-    let at-children = at-degree .before in
-    let at-pair = at-children .before in
-    let s = at-pair .before .before .before .before in
-    let p = s .pre in
+    let p = c .before .before .before .before .before .before .before .before .before .before .before .before .before .before .before .pre in
     let h = p .1 .1 .choice _ (c .before .loop-test .taken) in
     omega (arith, degree-few (p .0) (p .1 .1 .pair))
 
@@ -142,14 +120,7 @@ stored-value-requires-2 c κs =
 
 add-x : tie.Need-add-x Inv-loop μ-loop
 add-x c =
-    let l = c .before .before .before .before in
-    let at-gains = l .before in
-    let at-forbidden = at-gains .before .before .before .before .before in
-    let at-degree = at-forbidden .before in
-    let at-children = at-degree .before in
-    let at-pair = at-children .before in
-    let s = at-pair .before .before .before .before in
-    let p = s .pre in
+    let p = c .before .before .before .before .before .before .before .before .before .before .before .before .before .before .before .before .before .pre in
     let h = p .1 .1 .enough in
     let t = c .before .before .before .loop-test .taken in
     let n = number-few (p .0) in
@@ -157,14 +128,7 @@ add-x c =
 
 mul-x : tie.Need-mul-x Inv-loop μ-loop
 mul-x c =
-    let l = c .before .before .before .before in
-    let at-gains = l .before in
-    let at-forbidden = at-gains .before .before .before .before .before in
-    let at-degree = at-forbidden .before in
-    let at-children = at-degree .before in
-    let at-pair = at-children .before in
-    let s = at-pair .before .before .before .before in
-    let p = s .pre in
+    let p = c .before .before .before .before .before .before .before .before .before .before .before .before .before .before .before .before .before .pre in
     let h = p .1 .1 .enough in
     let t = c .before .before .before .loop-test .taken in
     let n = number-few (p .0) in
@@ -173,13 +137,7 @@ mul-x c =
 slice-set-from-x : tie.Need-slice-set-from-x Inv-loop μ-loop
 slice-set-from-x c =
     let l = c .before .before .before .before in
-    let at-gains = l .before in
-    let at-forbidden = at-gains .before .before .before .before .before in
-    let at-degree = at-forbidden .before in
-    let at-children = at-degree .before in
-    let at-pair = at-children .before in
-    let s = at-pair .before .before .before .before in
-    let p = s .pre in
+    let p = l .before .before .before .before .before .before .before .before .before .before .before .before .before .pre in
     let h = p .1 .1 .enough in
     let t = c .before .before .before .loop-test .taken in
     let n = fill-lent _ _ _ _ _ _ _ (p .1 .0) (l .loop .inv .1) .enough in
@@ -206,13 +164,7 @@ same-length-3 c = ap length (c .before .loop .inv .1) ∙ length-fill _ _ _ _ _ 
 returns-3 : tie.Need-returns-3 Inv-loop μ-loop
 returns-3 c =
     let l = c .before in
-    let at-gains = l .before in
-    let at-forbidden = at-gains .before .before .before .before .before in
-    let at-degree = at-forbidden .before in
-    let at-children = at-degree .before in
-    let at-pair = at-children .before in
-    let s = at-pair .before .before .before .before in
-    let p = s .pre in
+    let s = l .before .before .before .before .before .before .before .before .before .before .before .before .before in
     let e : l .loop .i ≡ s .args .count = omega arith in
     rw e at (l .loop .inv .1)
 
