@@ -7,7 +7,7 @@ use crate::shape::shape_ok;
 use crate::weighing::mapping_item;
 use formats::inputs::input_item;
 use formats::tree::vertex_count;
-use plan::make::make;
+use planning::make;
 ghost use mathlib.Core.Path.{_≡_};
 ghost use Rattle.plan.specs.Plan.{Ready};
 ghost use Rattle.check_front.specs.Front.{FrontChecked};

@@ -66,7 +66,7 @@ fn choices_marked(
     recorded: &[u8],
     found: &[u8],
     plan: &[[u8; 8]; 512],
-    places: &[[usize; 2]; 65],
+    places: &[[u32; 2]; 65],
     z: &[u8],
     i: usize,
     v: u8,
@@ -93,7 +93,7 @@ fn row_marked(
     recorded: &[u8],
     found: &[u8],
     plan: &[[u8; 8]; 512],
-    places: &[[usize; 2]; 65],
+    places: &[[u32; 2]; 65],
     z: &[u8],
     i: usize,
 ) -> bool
@@ -118,7 +118,7 @@ fn records_marked(
     recorded: &[u8],
     found: &[u8],
     plan: &[[u8; 8]; 512],
-    places: &[[usize; 2]; 65],
+    places: &[[u32; 2]; 65],
     z: &[u8],
 ) -> bool
     requires { ⌜ Laid (now recorded) (now found) (now plan) (now places) ⌝ }
@@ -145,7 +145,7 @@ pub fn shape_ok(recorded: &[u8], found: &[u8], plan: &[[u8; 8]; 512], z: &[u8], 
 {
     let n = vertex_count(recorded);
     let m = vertex_count(found);
-    let mut places = [[0usize; 2]; 65];
+    let mut places = [[0u32; 2]; 65];
     places_of(&mut places, recorded, found, plan);
     let long = begin(&places, n);
     if z.len() != long {

@@ -1,6 +1,4 @@
 -- Laws of the check of a certificate's records.
-pub mod Numbers
-pub mod Cover
 pub mod Rules
 pub mod Gains
 pub mod Records

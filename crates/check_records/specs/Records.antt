@@ -1,6 +1,6 @@
 -- The records of a pair of vertices, one for each choice of s: what the code has read for them, and that its test is the model's. Assumes nothing.
 use mathlib.Core.Path.{_≡_, refl, sym, ap, _∙_}
-use mathlib.Core.Bool.{Bool, true, false, cond}
+use mathlib.Core.Bool.{Bool, true, false}
 use mathlib.Core.List.{List}
 use Prim.Native.Nat.{ℕ, _+_, _*_, _≤_, _<_}
 use native.Mathlib.Omega.{arith}
@@ -19,23 +19,9 @@ use Rattle.plan.specs.Numbers.{ready-sound}
 use Rattle.plan.specs.Pairs.{weighed-none, weighed-number, cell, upW, gainAt, Filled, children-is, degree-is, children-few, degree-few}
 use Rattle.records.specs.Others.{othersOf, others-few, columnIn, OthersAt, others-at}
 use Rattle.records.specs.Places.{inputs-length, order-low, number-at}
-use Rattle.check_records.specs.Cover.{Inside, zerosIn, dualsIn}
+use Rattle.record_rules.specs.Cover.{Inside, recordIn, rules-none, rules-some}
 use Rattle.check_records.specs.Rules.{RecordIs, record-none, record-some}
 use Rattle.check_records.specs.Gains.{Given}
-
--- ---- one record
-
--- the rules of a record of weight w: those of a forbidden pair, or of any other
-unfoldable pub recordIn : List ℕ → ℕ → ℕ → ℕ → ℕ → List ℕ → ℤ → Bool
-recordIn z here n l q g w = cond (isForbidden w) (zerosIn z here n l) (dualsIn z here n l q g w)
-
-pub rules-none : (z : List ℕ) (here n l q : ℕ) (g : List ℕ) (w : ℤ) → isForbidden w ≡ true → zerosIn z here n l ≡ recordIn z here n l q g w
-unfolding recordIn
-rules-none z here n l q g w e = rw e
-
-pub rules-some : (z : List ℕ) (here n l q : ℕ) (g : List ℕ) (w : ℤ) → isForbidden w ≡ false → dualsIn z here n l q g w ≡ recordIn z here n l q g w
-unfolding recordIn
-rules-some z here n l q g w e = rw e
 
 -- ---- the records of the i-th vertex in postorder
 

@@ -20,8 +20,8 @@ use Rattle.model.specs.Weights.{Weight, none, some}
 use Rattle.plan.specs.Pairs.{cell, upW}
 use Rattle.records.specs.Others.{columnIn}
 use Rattle.records.specs.Places.{NumberAt}
-use Rattle.check_records.specs.Numbers.{notNegative, isZero}
-use Rattle.check_records.specs.Cover.{zerosIn, dualIn, coverIn, dualsIn}
+use Rattle.record_rules.specs.Numbers.{notNegative, isZero}
+use Rattle.record_rules.specs.Cover.{zerosIn, dualIn, coverIn, dualsIn}
 
 -- ---- natural numbers for duals that are not negative
 

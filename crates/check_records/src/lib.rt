@@ -1,16 +1,14 @@
 //! The certificate's check, items 23 and 24: the rules of the subproblems' records, and the greatest value with s = v.
-pub mod cover;
 pub mod gains;
-pub mod numbers;
 pub mod record;
 pub mod top;
 
-use crate::numbers::is_sum;
-use crate::numbers::wide;
 use crate::record::records_ok;
 use crate::top::greatest;
 use integers::int32_at;
-use plan::make::make;
+use planning::make;
+use record_rules::numbers::is_sum;
+use record_rules::numbers::wide;
 use records::places_of;
 ghost use mathlib.Core.Path.{_≡_};
 ghost use lib.ListN.{length};
@@ -31,7 +29,7 @@ fn records_item(
     requires { ⌜ length (now certificate) ≡ certificateLength (now recorded) (now found) ⌝ }
     ensures { λ r. ⌜ r ≡ recordsItem (now (table .entry)) (now (recorded .entry)) (now (found .entry)) (now (certificate .entry)) ⌝ }
 {
-    let mut places = [[0usize; 2]; 65];
+    let mut places = [[0u32; 2]; 65];
     places_of(&mut places, recorded, found, plan);
     let ok = records_ok(table, recorded, found, plan, &places, certificate);
     if !ok {

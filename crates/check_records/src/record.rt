@@ -1,12 +1,11 @@
-//! Item 23: the record of a subproblem, those of a pair of vertices, of a recorded vertex, and all of them.
-use crate::cover::duals_ok;
-use crate::cover::forbidden_ok;
+//! Item 23: the records of a pair of vertices, those of a recorded vertex, and all of them.
 use crate::gains::gains;
 use formats::tree::vertex_count;
 use plan::child_count;
 use plan::degree;
 use plan::in_order;
 use plan::weights::vertex_pair;
+use record_rules::record_ok;
 use records::others_of;
 use records::record_at;
 ghost use Prim.Native.Nat.{_+_, _<_};
@@ -19,21 +18,8 @@ ghost use Rattle.model.specs.Graph.{neighbours};
 ghost use Rattle.model.specs.Order.{offset, width, subproblems};
 ghost use Rattle.model.specs.Certificate.{subproblemOk};
 ghost use Rattle.records.specs.Others.{columnIn};
-ghost use Rattle.check_records.specs.Cover.{Inside};
 ghost use Rattle.check_records.specs.Gains.{Given};
-ghost use Rattle.check_records.specs.Records.{recordIn, inRow, PairRead};
-
-// The record at `here` of a pair of weight w with gains g: u has n children, v has l neighbours other than the q-th choice.
-fn record_ok(z: &[u8], here: usize, n: usize, l: usize, q: usize, g: &[u64; 64], w: i32) -> bool
-    requires { ⌜ Inside (length (now z)) here n l ⌝ }
-    requires { ⌜ ((j : _) → j < l → columnIn q j < degreeLimit) ⌝ }
-    ensures { λ r. ⌜ r ≡ recordIn (now (z .entry)) here n l q (now (g .entry)) w ⌝ }
-{
-    if integers::is_forbidden(w) {
-        return forbidden_ok(z, here, n, l);
-    }
-    duals_ok(z, here, n, l, q, g, w)
-}
+ghost use Rattle.check_records.specs.Records.{inRow, PairRead};
 
 // The records of the i-th vertex in postorder and v, one for each choice of s: a pair of weight w with gains g.
 fn choices_ok(
@@ -41,7 +27,7 @@ fn choices_ok(
     recorded: &[u8],
     found: &[u8],
     plan: &[[u8; 8]; 512],
-    places: &[[usize; 2]; 65],
+    places: &[[u32; 2]; 65],
     certificate: &[u8],
     i: usize,
     v: u8,
@@ -72,7 +58,7 @@ fn pair_ok(
     recorded: &[u8],
     found: &[u8],
     plan: &[[u8; 8]; 512],
-    places: &[[usize; 2]; 65],
+    places: &[[u32; 2]; 65],
     certificate: &[u8],
     i: usize,
     v: u8,
@@ -115,7 +101,7 @@ fn row_ok(
     recorded: &[u8],
     found: &[u8],
     plan: &[[u8; 8]; 512],
-    places: &[[usize; 2]; 65],
+    places: &[[u32; 2]; 65],
     certificate: &[u8],
     i: usize,
 ) -> bool
@@ -140,7 +126,7 @@ pub fn records_ok(
     recorded: &[u8],
     found: &[u8],
     plan: &[[u8; 8]; 512],
-    places: &[[usize; 2]; 65],
+    places: &[[u32; 2]; 65],
     certificate: &[u8],
 ) -> bool
     requires { ⌜ Given (now table) (now recorded) (now found) (now plan) (now places) (now certificate) ⌝ }

@@ -25,7 +25,7 @@ fn top_of_row(
     recorded: &[u8],
     found: &[u8],
     plan: &[[u8; 8]; 512],
-    places: &[[usize; 2]; 65],
+    places: &[[u32; 2]; 65],
     certificate: &[u8],
     u: u8,
 ) -> u32
@@ -66,7 +66,7 @@ pub fn greatest(
     recorded: &[u8],
     found: &[u8],
     plan: &[[u8; 8]; 512],
-    places: &[[usize; 2]; 65],
+    places: &[[u32; 2]; 65],
     certificate: &[u8],
 ) -> u32
     requires { ⌜ Laid (now recorded) (now found) (now plan) (now places) ⌝ }

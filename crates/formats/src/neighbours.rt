@@ -5,11 +5,11 @@ use crate::tree::end_b;
 use crate::tree::vertex_count;
 ghost use Prim.Native.Nat.{min};
 ghost use lib.Dec.{eqb};
-ghost use lib.ListN.{getD};
+ghost use lib.ListN.{getD, replicate};
 ghost use mathlib.Core.Path.{_≡_};
 ghost use mathlib.Core.Bool.{cond};
 ghost use Rattle.foundations.specs.Lists.{tab};
-ghost use Rattle.model.specs.Limits.{degreeLimit};
+ghost use Rattle.model.specs.Limits.{vertexLimit, degreeLimit, noVertex};
 ghost use Rattle.model.specs.Tree.{count};
 ghost use Rattle.model.specs.Graph.{neighbourTable, edgeLabelTable};
 ghost use Rattle.trees.specs.Accepted.{Ends};
@@ -91,14 +91,14 @@ fn label_in(labels: [u8; 8], names: [u8; 8], w: u8, l: u8) -> [u8; 8]
     r
 }
 
-// The labels of the edges to every vertex's neighbours, in the neighbours' places.
-pub fn edge_label_table(s: &[u8], neighbours: &[[u8; 8]; 64]) -> [[u8; 8]; 64]
+// The labels of the edges to every vertex's neighbours, in the neighbours' places, into a table of free places.
+pub fn edge_label_table(t: &mut [[u8; 8]; 64], s: &[u8], neighbours: &[[u8; 8]; 64])
+    requires { ⌜ now t ≡ replicate vertexLimit (replicate degreeLimit noVertex) ⌝ }
     requires { ⌜ Ends (now s) (count (now s)) ⌝ }
     requires { ⌜ now neighbours ≡ neighbourTable (now s) ⌝ }
-    ensures { λ r. ⌜ r ≡ edgeLabelTable (now (s .entry)) ⌝ }
+    ensures { λ _. ⌜ now (t .exit) ≡ edgeLabelTable (now (s .entry)) ⌝ }
 {
     let n = vertex_count(s);
-    let mut t = [[model::Limits::NONE; 8]; 64];
     let mut j: usize = 0;
     while j + 1 < n {
         let a = end_a(s, n, j);
@@ -110,5 +110,4 @@ pub fn edge_label_table(s: &[u8], neighbours: &[[u8; 8]; 64]) -> [[u8; 8]; 64]
         t[b as usize] = q;
         j += 1;
     }
-    t
 }

@@ -18,7 +18,7 @@ use model::JobRecord;
 use model::MatchAnswer;
 use model::StartAnswer;
 use model::StartOutcome;
-use plan::make::make;
+use planning::make;
 use solver::fill::fill;
 ghost use mathlib.Core.Path.{_≡_};
 ghost use Rattle.model.specs.Jobs.{startOf, advanceOf, advanceWork, finishItem, FinishCall};

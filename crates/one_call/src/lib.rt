@@ -6,7 +6,7 @@ use formats::tree::vertex_count;
 use job_items::start_item;
 use model::MatchAnswer;
 use plan::counts::subproblem_count;
-use plan::make::make;
+use planning::make;
 use readout::cycle::clear;
 use readout::cycle::read_out;
 use solver::fill::fill;

@@ -1,8 +1,7 @@
-//! The plan of two trees: what a call looks up in them, as rows of eight bytes, made once (`make`). A recorded half and a found half, each of
-//! its own tree alone. `specs/Plan.antt` says where a number stands and what it is; nothing else knows where. Beside it the weights of pairs
+//! The plan of two trees: what a call looks up in them, as rows of eight bytes, made once (crates/planning). A recorded half and a found half, each of
+//! its own tree alone. `specs/Plan.antt` says where a number stands and what it is; nothing above knows where. Beside it the weights of pairs
 //! (`weights`) and the numbers that follow from the vertex counts (`counts`).
 pub mod counts;
-pub mod make;
 pub mod weights;
 
 use model::Limits;
@@ -12,8 +11,9 @@ ghost use Rattle.model.specs.Limits.{vertexLimit, degreeLimit};
 ghost use Rattle.plan.specs.Plan.{childCountIn, placeIn, orderIn, parentIn, parentEdgeIn, childIn, childEdgeIn, childPlaceIn, degreeIn, offsetIn, neighbourIn, neighbourEdgeIn, behindIn};
 ghost use Rattle.plan.specs.Numbers.{Located, SlotAt};
 
-// Where the blocks of rows begin, a row for each vertex in each: the recorded tree's first rows begin at 0.
-struct Blocks {}
+// Where the blocks of rows begin, a row for each vertex in each: the recorded tree's first rows begin at 0. For the accessors here, and for `planning`,
+// which fills the rows.
+pub struct Blocks {}
 
 impl Blocks {
     pub const CHILD: usize = Limits::ROWS;

@@ -56,20 +56,27 @@ fn others_before(d: usize, q: usize) -> usize
 
 // ---- places
 
+// A place as an index.
+fn wide(x: u32) -> usize
+    ensures { λ r. ⌜ r ≡ x ⌝ }
+{
+    x as usize
+}
+
 // Where the records of the i-th vertex in postorder begin.
-pub fn begin(places: &[[usize; 2]; 65], i: usize) -> usize
+pub fn begin(places: &[[u32; 2]; 65], i: usize) -> usize
     requires { ⌜ i ≤ vertexLimit ⌝ }
     ensures { λ r. ⌜ r ≡ beginIn (now (places .entry)) i ⌝ }
 {
-    places[i][0]
+    wide(places[i][0])
 }
 
 // The sum of the squares of the degrees of the found vertices before v.
-fn squares(places: &[[usize; 2]; 65], v: u8) -> usize
+fn squares(places: &[[u32; 2]; 65], v: u8) -> usize
     requires { ⌜ v ≤ vertexLimit ⌝ }
     ensures { λ r. ⌜ r ≡ squaresIn (now (places .entry)) v ⌝ }
 {
-    places[v as usize][1]
+    wide(places[v as usize][1])
 }
 
 // What a record of the i-th vertex in postorder has beside the duals of v's neighbours: mark, value, a dual for each child.
@@ -81,7 +88,7 @@ pub fn size(plan: &[[u8; 8]; 512], i: usize) -> usize
 }
 
 // The sums of squares, each in its place.
-fn square_sums(p: &mut [[usize; 2]; 65], recorded: &[u8], found: &[u8], plan: &[[u8; 8]; 512])
+fn square_sums(p: &mut [[u32; 2]; 65], recorded: &[u8], found: &[u8], plan: &[[u8; 8]; 512])
     requires { ⌜ length (now p) ≡ 65 ⌝ }
     requires { ⌜ Inputs (now recorded) (now found) (now plan) ⌝ }
     ensures { λ _. ⌜ SquaresTo (now (found .entry)) (count (now (found .entry))) (now (p .exit)) ⌝ }
@@ -93,13 +100,13 @@ fn square_sums(p: &mut [[usize; 2]; 65], recorded: &[u8], found: &[u8], plan: &[
     while v < m {
         let d = degree(plan, v as u8);
         sum += d * d;
-        p[v + 1] = [0, sum];
+        p[v + 1] = [0, sum as u32];
         v += 1;
     }
 }
 
 // Where the records stand, over whatever stood there.
-pub fn places_of(p: &mut [[usize; 2]; 65], recorded: &[u8], found: &[u8], plan: &[[u8; 8]; 512])
+pub fn places_of(p: &mut [[u32; 2]; 65], recorded: &[u8], found: &[u8], plan: &[[u8; 8]; 512])
     requires { ⌜ length (now p) ≡ 65 ⌝ }
     requires { ⌜ Inputs (now recorded) (now found) (now plan) ⌝ }
     ensures { λ _. ⌜ Laid (now (recorded .entry)) (now (found .entry)) (now (plan .entry)) (now (p .exit)) ⌝ }
@@ -108,14 +115,14 @@ pub fn places_of(p: &mut [[usize; 2]; 65], recorded: &[u8], found: &[u8], plan: 
     let m = vertex_count(found);
     let w = width_of(found);
     square_sums(p, recorded, found, plan);
-    let all = p[m][1];
+    let all = wide(p[m][1]);
     let mut at = 8 + 3 * n;
-    p[0] = [at, 0];
+    p[0] = [at as u32, 0];
     let mut i: usize = 0;
     while i < n {
         at = at + w * size(plan, i) + 4 * all;
         let s = p[i + 1][1];
-        p[i + 1] = [at, s];
+        p[i + 1] = [at as u32, s];
         i += 1;
     }
 }
@@ -126,7 +133,7 @@ pub fn record_in(
     recorded: &[u8],
     found: &[u8],
     plan: &[[u8; 8]; 512],
-    places: &[[usize; 2]; 65],
+    places: &[[u32; 2]; 65],
     i: usize,
     first: usize,
     own: usize,
@@ -147,7 +154,7 @@ pub fn record_at(
     recorded: &[u8],
     found: &[u8],
     plan: &[[u8; 8]; 512],
-    places: &[[usize; 2]; 65],
+    places: &[[u32; 2]; 65],
     i: usize,
     v: u8,
     q: usize,

@@ -6,7 +6,7 @@ use formats::tree::vertex_count;
 use job_items::start_item;
 use model::WriteAnswer;
 use one_call::solve_and_read;
-use plan::make::make;
+use planning::make;
 use put::front::put_front;
 use records::begin;
 use records::places_of;
@@ -24,7 +24,7 @@ fn solve_and_write(
     recorded: &[u8],
     found: &[u8],
     plan: &[[u8; 8]; 512],
-    places: &[[usize; 2]; 65],
+    places: &[[u32; 2]; 65],
     work: &mut [i32],
     certificate: &mut [u8],
 )
@@ -60,7 +60,7 @@ pub fn write_certificate(
     }
     let mut plan = [[0u8; 8]; 512];
     make(&mut plan, recorded, found);
-    let mut places = [[0usize; 2]; 65];
+    let mut places = [[0u32; 2]; 65];
     places_of(&mut places, recorded, found, &plan);
     let l = begin(&places, vertex_count(recorded));
     if certificate.len() < l {

@@ -46,6 +46,13 @@ add-sum c =
     let h = squares-next p _ _ _ (omega (arith, l .loop .inv .1)) (c .degree .ensures) (l .loop .inv .3) in
     omega (arith, h .0, h .1)
 
+cast-t15 : tie.Need-cast-t15 Inv-loop μ-loop
+cast-t15 c =
+    let l = c .before .before in
+    let p = l .before .before .before .before .pre .1 in
+    let h = squares-next p _ _ _ (omega (arith, l .loop .inv .1)) (c .degree .ensures) (l .loop .inv .3) in
+    omega (arith, h .0, h .1)
+
 loop-again : tie.Need-loop-again Inv-loop μ-loop
 loop-again c =
     let l = c .before .before in
@@ -69,6 +76,7 @@ square-sums-spec =
     degree-requires
     mul-sum
     add-sum
+    cast-t15
     (λ c. search needs)
     (λ c. search needs)
     (λ c. search needs)

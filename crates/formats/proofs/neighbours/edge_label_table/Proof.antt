@@ -1,6 +1,6 @@
 -- `edge_label_table` meets its contract. Assumes nothing.
 use Prim.Native.Nat.{_-_, _≤_, _<_}
-use mathlib.Core.Path.{_≡_}
+use mathlib.Core.Path.{_≡_, _∙_}
 use Rattle.trees.specs.Accepted.{Ends}
 use Rattle.formats.specs.NeighbourSteps.{labelRows, labelSoFar, no-labels, labelled-rows, labels-end}
 use borrow.Author.Needs.{needs}
@@ -9,13 +9,13 @@ use Rattle.formats.proofs.neighbours.edge_label_table.Statement.{statem
 use Rattle.formats.proofs.neighbours.edge_label_table.Tie as tie
 
 abbrev Inv-loop : tie.InvT-loop
-Inv-loop s neighbours n t₀ j₀ t j = (j ≤ n - 1) × (t ≡ labelRows neighbours (λ v w. labelSoFar s n v w j))
+Inv-loop t₀ s neighbours n j₀ t j = (j ≤ n - 1) × (t ≡ labelRows neighbours (λ v w. labelSoFar s n v w j))
 
 abbrev μ-loop : tie.MeasureT-loop
-μ-loop s neighbours n t₀ j₀ t j = n - j
+μ-loop t₀ s neighbours n j₀ t j = n - j
 
 ends : (c : tie.After-vertex-count Inv-loop μ-loop) → Ends (c .before .before .args .s .now) (c .vertex-count .result)
-ends c = rw (c .vertex-count .ensures) (c .before .before .pre .0)
+ends c = rw (c .vertex-count .ensures) (c .before .before .pre .1 .0)
 
 low-a : (c : tie.After-edge-label-at Inv-loop μ-loop) → c .before .before .end-a .result < 64
 low-a c = let l = c .before .before .before .before in omega (arith, ends (l .before) .low (l .loop .j) (omega arith), ends (l .before) .few, c .before .before .end-a .ensures)
@@ -27,7 +27,7 @@ vertex-count-requires : tie.Need-vertex-count-requires Inv-loop μ-loop
 vertex-count-requires c κs = search needs
 
 loop-holds : tie.Need-loop-holds Inv-loop μ-loop
-loop-holds c = (omega arith, no-labels _ _ (c .before .before .args .neighbours .now))
+loop-holds c = let s = c .before .before in (omega arith, s .pre .0 ∙ no-labels _ _ (s .args .neighbours .now))
 
 add-loop : tie.Need-add-loop Inv-loop μ-loop
 add-loop c = search needs
@@ -47,8 +47,8 @@ cast-label-in c = search needs
 mul-label-in : tie.Need-mul-label-in Inv-loop μ-loop
 mul-label-in c = omega (arith, low-a c)
 
-array-copy-out-label-in : tie.Need-array-copy-out-label-in Inv-loop μ-loop
-array-copy-out-label-in c = omega (arith, low-a c)
+element-copy-out-label-in : tie.Need-element-copy-out-label-in Inv-loop μ-loop
+element-copy-out-label-in c = omega (arith, low-a c)
 
 cast-label-in-2 : tie.Need-cast-label-in-2 Inv-loop μ-loop
 cast-label-in-2 c = search needs
@@ -56,20 +56,20 @@ cast-label-in-2 c = search needs
 mul-label-in-2 : tie.Need-mul-label-in-2 Inv-loop μ-loop
 mul-label-in-2 c = omega (arith, low-a (c .before))
 
-element-copy-out-label-in : tie.Need-element-copy-out-label-in Inv-loop μ-loop
-element-copy-out-label-in c = omega (arith, low-a (c .before))
+element-copy-out-label-in-2 : tie.Need-element-copy-out-label-in-2 Inv-loop μ-loop
+element-copy-out-label-in-2 c = omega (arith, low-a (c .before))
 
 label-in-requires : tie.Need-label-in-requires Inv-loop μ-loop
 label-in-requires c κs = search needs
 
-cast-t : tie.Need-cast-t Inv-loop μ-loop
-cast-t c = search needs
+cast-p : tie.Need-cast-p Inv-loop μ-loop
+cast-p c = search needs
 
-mul-t : tie.Need-mul-t Inv-loop μ-loop
-mul-t c = omega (arith, low-a (c .before .before .before))
+mul-p : tie.Need-mul-p Inv-loop μ-loop
+mul-p c = omega (arith, low-a (c .before .before .before))
 
-array-set-from-t : tie.Need-array-set-from-t Inv-loop μ-loop
-array-set-from-t c = omega (arith, low-a (c .before .before .before))
+element-set-from-p : tie.Need-element-set-from-p Inv-loop μ-loop
+element-set-from-p c = omega (arith, low-a (c .before .before .before))
 
 cast-label-in-3 : tie.Need-cast-label-in-3 Inv-loop μ-loop
 cast-label-in-3 c = search needs
@@ -77,8 +77,8 @@ cast-label-in-3 c = search needs
 mul-label-in-3 : tie.Need-mul-label-in-3 Inv-loop μ-loop
 mul-label-in-3 c = omega (arith, low-b (c .before .before .before))
 
-array-copy-out-label-in-2 : tie.Need-array-copy-out-label-in-2 Inv-loop μ-loop
-array-copy-out-label-in-2 c = omega (arith, low-b (c .before .before .before))
+element-copy-out-label-in-3 : tie.Need-element-copy-out-label-in-3 Inv-loop μ-loop
+element-copy-out-label-in-3 c = omega (arith, low-b (c .before .before .before))
 
 cast-label-in-4 : tie.Need-cast-label-in-4 Inv-loop μ-loop
 cast-label-in-4 c = search needs
@@ -86,20 +86,20 @@ cast-label-in-4 c = search needs
 mul-label-in-4 : tie.Need-mul-label-in-4 Inv-loop μ-loop
 mul-label-in-4 c = omega (arith, low-b (c .before .before .before .before))
 
-element-copy-out-label-in-2 : tie.Need-element-copy-out-label-in-2 Inv-loop μ-loop
-element-copy-out-label-in-2 c = omega (arith, low-b (c .before .before .before .before))
+element-copy-out-label-in-4 : tie.Need-element-copy-out-label-in-4 Inv-loop μ-loop
+element-copy-out-label-in-4 c = omega (arith, low-b (c .before .before .before .before))
 
 label-in-requires-2 : tie.Need-label-in-requires-2 Inv-loop μ-loop
 label-in-requires-2 c κs = search needs
 
-cast-t-2 : tie.Need-cast-t-2 Inv-loop μ-loop
-cast-t-2 c = search needs
+cast-q : tie.Need-cast-q Inv-loop μ-loop
+cast-q c = search needs
 
-mul-t-2 : tie.Need-mul-t-2 Inv-loop μ-loop
-mul-t-2 c = omega (arith, low-b (c .before .before .before .before .before .before))
+mul-q : tie.Need-mul-q Inv-loop μ-loop
+mul-q c = omega (arith, low-b (c .before .before .before .before .before .before))
 
-array-set-from-t-2 : tie.Need-array-set-from-t-2 Inv-loop μ-loop
-array-set-from-t-2 c = omega (arith, low-b (c .before .before .before .before .before .before))
+element-set-from-q : tie.Need-element-set-from-q Inv-loop μ-loop
+element-set-from-q c = omega (arith, low-b (c .before .before .before .before .before .before))
 
 loop-again : tie.Need-loop-again Inv-loop μ-loop
 loop-again c =
@@ -113,7 +113,7 @@ returns c =
     let l = c .before in
     let n = l .before .vertex-count in
     let s = l .before .before .before in
-    labels-end (s .args .s .now) (n .result) (l .loop .j) (s .args .neighbours .now) (l .loop .t) (s .pre .0) (s .pre .1) (n .ensures) (omega (arith, ends (l .before) .some)) (l .loop .inv .1)
+    labels-end (s .args .s .now) (n .result) (l .loop .j) (s .args .neighbours .now) (l .loop .t) (s .pre .1 .0) (s .pre .1 .1) (n .ensures) (omega (arith, ends (l .before) .some)) (l .loop .inv .1)
 
 pub edge-label-table-spec : {M : Type 1} → statement M
 edge-label-table-spec =
@@ -129,24 +129,24 @@ edge-label-table-spec =
     edge-label-at-requires
     cast-label-in
     mul-label-in
-    array-copy-out-label-in
+    element-copy-out-label-in
     cast-label-in-2
     mul-label-in-2
-    element-copy-out-label-in
+    element-copy-out-label-in-2
     label-in-requires
-    cast-t
-    mul-t
-    array-set-from-t
+    cast-p
+    mul-p
+    element-set-from-p
     cast-label-in-3
     mul-label-in-3
-    array-copy-out-label-in-2
+    element-copy-out-label-in-3
     cast-label-in-4
     mul-label-in-4
-    element-copy-out-label-in-2
+    element-copy-out-label-in-4
     label-in-requires-2
-    cast-t-2
-    mul-t-2
-    array-set-from-t-2
+    cast-q
+    mul-q
+    element-set-from-q
     (λ c. search needs)
     (λ c. search needs)
     loop-again

@@ -1,0 +1,44 @@
+-- `plan_recorded` meets its contract. Assumes nothing.
+use Rattle.planning.specs.Rows.{order-different, recorded-read}
+use borrow.Author.Needs.{needs}
+use Rattle.planning.proofs.plan_recorded.Statement.{statement}
+use Rattle.planning.proofs.plan_recorded.Tie as tie
+
+neighbour-table-requires : tie.Need-neighbour-table-requires
+neighbour-table-requires c κs = search needs
+
+edge-label-table-requires : tie.Need-edge-label-table-requires
+edge-label-table-requires c κs = search needs
+
+postorder-requires : tie.Need-postorder-requires
+postorder-requires c κs = search needs
+
+places-requires : tie.Need-places-requires
+places-requires c κs =
+    let at-postorder = c .before in
+    let at-near = at-postorder .before .before .before .before .before in
+    let a = at-near .before .before in
+    order-different (a .pre .1) (at-near .neighbour-table .ensures) (at-postorder .postorder .ensures)
+
+store-recorded-requires : tie.Need-store-recorded-requires
+store-recorded-requires c κs =
+    let at-places = c .before .before .before .before .before in
+    let at-postorder = at-places .before .before in
+    let at-labels = at-postorder .before .before in
+    let at-near = at-labels .before .before .before in
+    let a = at-near .before .before in
+    (a .pre .0, recorded-read (a .pre .1) (at-near .neighbour-table .ensures) (at-postorder .postorder .ensures) _ _ (at-labels .edge-label-table .ensures) (at-places .places .ensures))
+
+returns : tie.Need-returns
+returns c = search needs
+
+pub plan-recorded-spec : {M : Type 1} → statement M
+plan-recorded-spec =
+    tie.close
+    (tie.spec
+    neighbour-table-requires
+    edge-label-table-requires
+    postorder-requires
+    places-requires
+    store-recorded-requires
+    returns)

@@ -1,0 +1,294 @@
+//! Making the plan: each half reads its own tree once and leaves the other half as it was.
+use formats::neighbours::edge_label_table;
+use formats::neighbours::neighbour_table;
+use formats::tree::vertex_count;
+use model::Limits;
+use plan::Blocks;
+use trees::places;
+use trees::postorder;
+ghost use Prim.Native.Nat.{ℕ, _+_, _<_, _≤_};
+ghost use mathlib.Core.Path.{_≡_};
+ghost use lib.ListN.{getD, length};
+ghost use Rattle.model.specs.Graph.{neighbourTable};
+ghost use Rattle.model.specs.Limits.{vertexLimit, widthLimit};
+ghost use Rattle.model.specs.Tree.{count};
+ghost use Rattle.trees.specs.Accepted.{Sound};
+ghost use Rattle.plan.specs.Plan.{Planned};
+ghost use Rattle.planning.specs.Making.{TakenPlaces, Starts, placeOr, nextOf, ChildrenTo, At, Behind, BehindTo};
+ghost use Rattle.planning.specs.Parents.{isLater, LaterAt, atOr};
+ghost use Rattle.planning.specs.Rows.{RecordedRead, FoundRead, Head, RecordedHalf, FoundHalf};
+
+// How many places of a row are taken.
+fn taken(row: [u8; 8]) -> u8
+    ensures { λ r. ⌜ TakenPlaces row r ⌝ }
+{
+    let mut k: u8 = 0;
+    while k < Limits::DEGREE {
+        if row[k as usize] == Limits::NONE {
+            return k;
+        }
+        k += 1;
+    }
+    k
+}
+
+// Where the subproblems of each found vertex begin among those of one recorded vertex.
+fn starts(found: &[u8], neighbours: &[[u8; 8]; 64]) -> [u8; 65]
+    requires { ⌜ Sound (now found) ⌝ }
+    requires { ⌜ now neighbours ≡ neighbourTable (now found) ⌝ }
+    ensures { λ r. ⌜ Starts (now (found .entry)) (count (now (found .entry))) r ⌝ }
+{
+    let n = vertex_count(found);
+    let mut s = [0u8; 65];
+    let mut v: usize = 0;
+    while v < n {
+        let k = taken(neighbours[v]);
+        s[v + 1] = s[v] + 1 + k;
+        v += 1;
+    }
+    s
+}
+
+// The children of a recorded vertex: their number, and in the first places each one's vertex, the label of the edge to it, and its place.
+struct Family {
+    count: u8,
+    vertex: [u8; 8],
+    label: [u8; 8],
+    place: [u8; 8],
+}
+
+// A vertex's place in the postorder, 255 where w is no vertex.
+fn place_or(place: &[u8; 64], w: u8) -> u8
+    ensures { λ r. ⌜ r ≡ placeOr (now (place .entry)) w ⌝ }
+{
+    if w < Limits::VERTICES {
+        place[w as usize]
+    } else {
+        Limits::NONE
+    }
+}
+
+// One more where p comes before `own`.
+fn next(c: u8, p: u8, own: u8) -> u8
+    requires { ⌜ c < 8 ⌝ }
+    ensures { λ r. ⌜ r ≡ nextOf c p own ⌝ }
+{
+    if p < own { c + 1 } else { c }
+}
+
+// Of the neighbours in their places: those that come before `own` in the postorder are the children.
+fn children(neighbours: [u8; 8], labels: [u8; 8], place: &[u8; 64], own: u8) -> Family
+    ensures { λ r. ⌜ ChildrenTo neighbours labels (now (place .entry)) own 8 (r .count) (r .label) (r .place) (r .vertex) ⌝ }
+{
+    let mut vertex = [0u8; 8];
+    let mut label = [0u8; 8];
+    let mut at = [0u8; 8];
+    let mut c: u8 = 0;
+    let mut i: usize = 0;
+    while i < Limits::PLACES {
+        let w = neighbours[i];
+        let p = place_or(place, w);
+        vertex[c as usize] = w;
+        label[c as usize] = labels[i];
+        at[c as usize] = p;
+        c = next(c, p, own);
+        i += 1;
+    }
+    Family {
+        count: c,
+        vertex: vertex,
+        label: label,
+        place: at,
+    }
+}
+
+// The first place of v in a row, or 8.
+fn find(row: [u8; 8], v: u8) -> u8
+    ensures { λ r. ⌜ At row v r ⌝ }
+{
+    let mut i: u8 = 0;
+    while i < Limits::DEGREE {
+        if row[i as usize] == v {
+            return i;
+        }
+        i += 1;
+    }
+    i
+}
+
+// Where the subproblem of x with v as its s stands among those of one recorded vertex, 0 where x is no vertex.
+fn behind_one(neighbours: &[[u8; 8]; 64], starts: &[u8; 65], v: u8, x: u8) -> u8
+    requires { ⌜ ((y : ℕ) → getD (now starts) y 0 ≤ widthLimit) ⌝ }
+    ensures { λ r. ⌜ Behind (now (neighbours .entry)) (now (starts .entry)) v x r ⌝ }
+{
+    if x < Limits::VERTICES {
+        let i = find(neighbours[x as usize], v);
+        starts[x as usize] + 1 + i
+    } else {
+        0
+    }
+}
+
+// In each place of v's neighbours, where the subproblem behind it stands.
+fn behind_row(neighbours: &[[u8; 8]; 64], starts: &[u8; 65], v: u8) -> [u8; 8]
+    requires { ⌜ v < vertexLimit ⌝ }
+    requires { ⌜ ((y : ℕ) → getD (now starts) y 0 ≤ widthLimit) ⌝ }
+    ensures { λ r. ⌜ BehindTo (now (neighbours .entry)) (now (starts .entry)) v 8 r ⌝ }
+{
+    let row = neighbours[v as usize];
+    let mut r = [0u8; 8];
+    let mut j: usize = 0;
+    while j < Limits::PLACES {
+        let b = behind_one(neighbours, starts, v, row[j]);
+        r[j] = b;
+        j += 1;
+    }
+    r
+}
+
+// w is a vertex that comes after place `own` of the postorder.
+fn is_later(place: &[u8; 64], w: u8, own: u8) -> bool
+    ensures { λ r. ⌜ r ≡ isLater (now (place .entry)) own w ⌝ }
+{
+    if w < Limits::VERTICES {
+        return own < place[w as usize];
+    }
+    false
+}
+
+// The first place of a row whose vertex comes after place `own`, 8 for none.
+fn later_at(row: [u8; 8], place: &[u8; 64], own: u8) -> usize
+    ensures { λ r. ⌜ LaterAt row (now (place .entry)) own r ⌝ }
+{
+    let mut i: usize = 0;
+    while i < Limits::PLACES {
+        let later = is_later(place, row[i], own);
+        if later {
+            return i;
+        }
+        i += 1;
+    }
+    i
+}
+
+// What stands in place k, 0 where k is no place.
+fn at_or(row: [u8; 8], k: usize) -> u8
+    ensures { λ r. ⌜ r ≡ atOr row k ⌝ }
+{
+    if k < Limits::PLACES { row[k] } else { 0 }
+}
+
+// A recorded vertex's first row: its children's number, its place in the postorder, the vertex that stands u-th there, its parent and the label of the
+// edge to it.
+fn head_of(children: u8, own: u8, at: u8, parent: u8, edge: u8) -> [u8; 8]
+    ensures { λ r. ⌜ Head r children own at parent edge ⌝ }
+{
+    let mut head = [0u8; 8];
+    head[0] = children;
+    head[1] = own;
+    head[2] = at;
+    head[3] = parent;
+    head[4] = edge;
+    head
+}
+
+// The rows of the recorded tree, from what was read of it.
+fn store_recorded(
+    plan: &mut [[u8; 8]; 512],
+    recorded: &[u8],
+    neighbours: &[[u8; 8]; 64],
+    labels: &[[u8; 8]; 64],
+    order: &[u8; 64],
+    place: &[u8; 64],
+)
+    requires { ⌜ length (now plan) ≡ 512 ⌝ }
+    requires { ⌜ RecordedRead (now recorded) (now neighbours) (now labels) (now order) (now place) ⌝ }
+    ensures { λ _. ⌜ RecordedHalf (now (recorded .entry)) (now (plan .entry)) (now (plan .exit)) (count (now (recorded .entry))) ⌝ }
+{
+    let n = vertex_count(recorded);
+    let mut u: usize = 0;
+    while u < n {
+        let own = place[u];
+        let row = children(neighbours[u], labels[u], place, own);
+        let k = later_at(neighbours[u], place, own);
+        let above = at_or(neighbours[u], k);
+        let edge = at_or(labels[u], k);
+        let head = head_of(row.count, own, order[u], above, edge);
+        plan[u] = head;
+        let vertex = row.vertex;
+        plan[Blocks::CHILD + u] = vertex;
+        let label = row.label;
+        plan[Blocks::CHILD_EDGE + u] = label;
+        let at = row.place;
+        plan[Blocks::CHILD_PLACE + u] = at;
+        u += 1;
+    }
+}
+
+// The rows of the found tree, from what was read of it.
+fn store_found(
+    plan: &mut [[u8; 8]; 512],
+    found: &[u8],
+    neighbours: &[[u8; 8]; 64],
+    labels: &[[u8; 8]; 64],
+    starts: &[u8; 65],
+)
+    requires { ⌜ length (now plan) ≡ 512 ⌝ }
+    requires { ⌜ FoundRead (now found) (now neighbours) (now labels) (now starts) ⌝ }
+    ensures { λ _. ⌜ FoundHalf (now (found .entry)) (now (plan .entry)) (now (plan .exit)) (count (now (found .entry))) ⌝ }
+{
+    let m = vertex_count(found);
+    let mut v: usize = 0;
+    while v < m {
+        let row = neighbours[v];
+        let back = behind_row(neighbours, starts, v as u8);
+        let mut head = [0u8; 8];
+        head[0] = taken(row);
+        head[1] = starts[v];
+        plan[Blocks::FOUND + v] = head;
+        plan[Blocks::NEIGHBOUR + v] = row;
+        let label = labels[v];
+        plan[Blocks::NEIGHBOUR_EDGE + v] = label;
+        plan[Blocks::BEHIND + v] = back;
+        v += 1;
+    }
+}
+
+// The recorded half. The found half stays.
+fn plan_recorded(plan: &mut [[u8; 8]; 512], recorded: &[u8])
+    requires { ⌜ length (now plan) ≡ 512 ⌝ }
+    requires { ⌜ Sound (now recorded) ⌝ }
+    ensures { λ _. ⌜ RecordedHalf (now (recorded .entry)) (now (plan .entry)) (now (plan .exit)) (count (now (recorded .entry))) ⌝ }
+{
+    let neighbours = neighbour_table(recorded);
+    let mut labels = [[Limits::NONE; 8]; 64];
+    edge_label_table(&mut labels, recorded, &neighbours);
+    let o = postorder(&neighbours);
+    let order = o.at;
+    let at = places(o);
+    store_recorded(plan, recorded, &neighbours, &labels, &order, &at);
+}
+
+// The found half. The recorded half stays.
+fn plan_found(plan: &mut [[u8; 8]; 512], found: &[u8])
+    requires { ⌜ length (now plan) ≡ 512 ⌝ }
+    requires { ⌜ Sound (now found) ⌝ }
+    ensures { λ _. ⌜ FoundHalf (now (found .entry)) (now (plan .entry)) (now (plan .exit)) (count (now (found .entry))) ⌝ }
+{
+    let neighbours = neighbour_table(found);
+    let mut labels = [[Limits::NONE; 8]; 64];
+    edge_label_table(&mut labels, found, &neighbours);
+    let begins = starts(found, &neighbours);
+    store_found(plan, found, &neighbours, &labels, &begins);
+}
+
+// The plan of two accepted trees, over whatever stood there.
+pub fn make(plan: &mut [[u8; 8]; 512], recorded: &[u8], found: &[u8])
+    requires { ⌜ length (now plan) ≡ 512 ⌝ }
+    requires { ⌜ Sound (now recorded) ⌝ }
+    requires { ⌜ Sound (now found) ⌝ }
+    ensures { λ _. ⌜ Planned (now (recorded .entry)) (now (found .entry)) (now (plan .exit)) ⌝ }
+{
+    plan_recorded(plan, recorded);
+    plan_found(plan, found);
+}
