@@ -30,8 +30,17 @@ fn repeat(work: &mut [i32], x: i32, from: usize, count: usize)
     }
 }
 
-// Of the subproblems of u and v: count of them, from the q-th choice of s on.
+// Subproblems that follow each other: count of them, from number `from` on. `first` is the number of the first of them among those of its recorded
+// vertex, or of its pair of vertices.
+struct Run {
+    first: usize,
+    from: usize,
+    count: usize,
+}
+
+// Of the subproblems of u and v a run that begins with the first-th choice of s. The gains are found in g, whatever stood there.
 fn fill_pair(
+    g: &mut [u64; 64],
     table: &[u8],
     recorded: &[u8],
     found: &[u8],
@@ -39,18 +48,20 @@ fn fill_pair(
     work: &mut [i32],
     u: u8,
     v: u8,
-    q: usize,
-    from: usize,
-    count: usize,
+    run: Run,
 )
     requires { ⌜ Ready (now table) (now recorded) (now found) (now plan) ⌝ }
     requires { ⌜ Lent (now recorded) (now found) (now work) ⌝ }
-    requires { ⌜ PairRun (now recorded) (now found) u v q from count ⌝ }
-    ensures { λ _. ⌜ now (work .exit) ≡ fill (now (table .entry)) (now (recorded .entry)) (now (found .entry)) (now (work .entry)) from count ⌝ }
+    requires { ⌜ PairRun (now recorded) (now found) u v (run .first) (run .from) (run .count) ⌝ }
+    requires { ⌜ length (now g) ≡ 64 ⌝ }
+    ensures { λ _. ⌜ (now (work .exit) ≡ fill (now (table .entry)) (now (recorded .entry)) (now (found .entry)) (now (work .entry)) (run .from) (run .count)) × (length (now (g .exit)) ≡ 64) ⌝ }
 {
     let w = vertex_pair(table, recorded, found, u, v);
     let k = child_count(plan, u);
     let l = degree(plan, v);
+    let first = run.first;
+    let from = run.from;
+    let count = run.count;
     if integers::is_forbidden(w) {
         repeat(work, model::Limits::FORBIDDEN, from, count);
         return;
@@ -59,42 +70,49 @@ fn fill_pair(
         repeat(work, integers::stored_value(w, 0), from, count);
         return;
     }
-    let mut g = [0u64; 64];
-    gains(&mut g, table, recorded, found, plan, work, u, v);
+    gains(g, table, recorded, found, plan, work, u, v);
     let mut i = 0;
     while i < count {
-        let total = heaviest(&g, k, l, q + i);
+        let total = heaviest(g, k, l, first + i);
         let x = integers::stored_value(w, total);
         work[from + i] = x;
         i += 1;
     }
 }
 
-// Of the subproblems of u: count of them, from number `rest` on.
+// Of the subproblems of u a run.
 fn fill_row(
+    g: &mut [u64; 64],
     table: &[u8],
     recorded: &[u8],
     found: &[u8],
     plan: &[[u8; 8]; 512],
     work: &mut [i32],
     u: u8,
-    rest: usize,
-    from: usize,
-    count: usize,
+    run: Run,
 )
     requires { ⌜ Ready (now table) (now recorded) (now found) (now plan) ⌝ }
     requires { ⌜ Lent (now recorded) (now found) (now work) ⌝ }
-    requires { ⌜ RowRun (now recorded) (now found) u rest from count ⌝ }
-    ensures { λ _. ⌜ now (work .exit) ≡ fill (now (table .entry)) (now (recorded .entry)) (now (found .entry)) (now (work .entry)) from count ⌝ }
+    requires { ⌜ RowRun (now recorded) (now found) u (run .first) (run .from) (run .count) ⌝ }
+    requires { ⌜ length (now g) ≡ 64 ⌝ }
+    ensures { λ _. ⌜ (now (work .exit) ≡ fill (now (table .entry)) (now (recorded .entry)) (now (found .entry)) (now (work .entry)) (run .from) (run .count)) × (length (now (g .exit)) ≡ 64) ⌝ }
 {
     let m = vertex_count(found);
+    let first = run.first;
+    let from = run.from;
+    let count = run.count;
     let mut v: u8 = 0;
     let mut i = 0;
     while i < count {
-        let t = locate(plan, m, rest + i, v);
-        let q = rest + i - offset(plan, t);
+        let t = locate(plan, m, first + i, v);
+        let q = first + i - offset(plan, t);
         let c = lesser(count - i, degree(plan, t) + 1 - q);
-        fill_pair(table, recorded, found, plan, work, u, t, q, from + i, c);
+        let part = Run {
+            first: q,
+            from: from + i,
+            count: c,
+        };
+        fill_pair(g, table, recorded, found, plan, work, u, t, part);
         v = t;
         i += c;
     }
@@ -116,22 +134,19 @@ pub fn fill(
     ensures { λ _. ⌜ now (work .exit) ≡ fill (now (table .entry)) (now (recorded .entry)) (now (found .entry)) (now (work .entry)) from count ⌝ }
 {
     let width = width_of(found);
+    let mut g = [0u64; 64];
     let mut i = 0;
     while i < count {
         let p = from + i;
         let rest = p % width;
         let c = lesser(count - i, width - rest);
-        fill_row(
-            table,
-            recorded,
-            found,
-            plan,
-            work,
-            in_order(plan, p / width),
-            rest,
-            p,
-            c,
-        );
+        let u = in_order(plan, p / width);
+        let run = Run {
+            first: rest,
+            from: p,
+            count: c,
+        };
+        fill_row(&mut g, table, recorded, found, plan, work, u, run);
         i += c;
     }
 }

@@ -5,7 +5,7 @@ use Rattle.model.specs.Values.{fill}
 use Rattle.subtrees.specs.Filling.{length-fill}
 use Prim.Native.Nat.{_+_, _≤_, _-_}
 use lib.ListN.{length}
-use mathlib.Core.Path.{_≡_, ap, _∙_}
+use mathlib.Core.Path.{_≡_, refl, ap, _∙_}
 use native.Mathlib.Nat.{mod-lt}
 use borrow.Author.Needs.{needs}
 use native.Mathlib.Omega.{arith}
@@ -13,16 +13,16 @@ use Rattle.solver.proofs.fill.fill.Statement.{statement}
 use Rattle.solver.proofs.fill.fill.Tie as tie
 
 abbrev Inv-loop : tie.InvT-loop
-Inv-loop table recorded found plan work₀ from count width i₀ work i = (i ≤ count) × (work ≡ fill table recorded found work₀ from i)
+Inv-loop table recorded found plan work₀ from count width g₀ i₀ work g i = (i ≤ count) × (work ≡ fill table recorded found work₀ from i) × (length g ≡ 64)
 
 abbrev μ-loop : tie.MeasureT-loop
-μ-loop table recorded found plan work₀ from count width i₀ work i = count - i
+μ-loop table recorded found plan work₀ from count width g₀ i₀ work g i = count - i
 
 width-of-requires : tie.Need-width-of-requires Inv-loop μ-loop
 width-of-requires c κs = ready-sound (c .before .before .before .pre .0)
 
 loop-holds : tie.Need-loop-holds Inv-loop μ-loop
-loop-holds c = (omega arith, fill-none _ _ _ _ _)
+loop-holds c = (omega arith, fill-none _ _ _ _ _, refl)
 
 rem-rest : tie.Need-rem-rest Inv-loop μ-loop
 rem-rest c = search needs
@@ -50,7 +50,7 @@ div-in-order c = search needs
 
 in-order-requires : tie.Need-in-order-requires Inv-loop μ-loop
 in-order-requires c κs =
-    let at-in = c .before .before in
+    let at-in = c .before in
     let l = at-in .before in
     let at-width = l .before in
     let s = at-width .before .before .before .before in
@@ -61,7 +61,7 @@ in-order-requires c κs =
 
 fill-row-requires : tie.Need-fill-row-requires Inv-loop μ-loop
 fill-row-requires c κs =
-    let at-in = c .before .before .before in
+    let at-in = c .before .before .before .before in
     let l = at-in .before in
     let at-width = l .before in
     let s = at-width .before .before .before .before in
@@ -69,12 +69,12 @@ fill-row-requires c κs =
     let h = p .1 .1 in
     let t = at-in .loop-test .taken in
     let m = mod-lt (s .args .from + l .loop .i) (at-width .width-of .ensures .1) in
-    let e = lesser-is (c .before .before .lesser .ensures) (omega arith) (omega arith) in
-    (p .0, (fill-lent _ _ _ _ _ _ _ (p .1 .0) (l .loop .inv .1), rw (c .in-order .ensures, at-width .width-of .ensures .0) (row-run (p .0) (s .args .from + l .loop .i) _ (omega (arith, e .1)) (e .0) (rw (at-width .width-of .ensures .0) at (e .2)))))
+    let e = lesser-is (c .before .before .before .lesser .ensures) (omega arith) (omega arith) in
+    (p .0, (fill-lent _ _ _ _ _ _ _ (p .1 .0) (l .loop .inv .1), (rw (c .before .before .in-order .ensures, at-width .width-of .ensures .0) (row-run (p .0) (s .args .from + l .loop .i) _ (omega (arith, e .1)) (e .0) (rw (at-width .width-of .ensures .0) at (e .2))), l .loop .inv .2)))
 
 add-i : tie.Need-add-i Inv-loop μ-loop
 add-i c =
-    let at-in = c .before .before .before .before .before in
+    let at-in = c .before .before .before .before .before .before in
     let l = at-in .before in
     let at-width = l .before in
     let s = at-width .before .before .before .before in
@@ -82,12 +82,12 @@ add-i c =
     let h = p .1 .1 in
     let t = at-in .loop-test .taken in
     let m = mod-lt (s .args .from + l .loop .i) (at-width .width-of .ensures .1) in
-    let e = lesser-is (c .before .before .before .before .lesser .ensures) (omega arith) (omega arith) in
+    let e = lesser-is (c .before .before .before .before .before .lesser .ensures) (omega arith) (omega arith) in
     omega (arith, e .1, number-few (p .0))
 
 loop-less : tie.Need-loop-less Inv-loop μ-loop
 loop-less c =
-    let at-in = c .before .before .before .before .before in
+    let at-in = c .before .before .before .before .before .before in
     let l = at-in .before in
     let at-width = l .before in
     let s = at-width .before .before .before .before in
@@ -95,12 +95,12 @@ loop-less c =
     let h = p .1 .1 in
     let t = at-in .loop-test .taken in
     let m = mod-lt (s .args .from + l .loop .i) (at-width .width-of .ensures .1) in
-    let e = lesser-is (c .before .before .before .before .lesser .ensures) (omega arith) (omega arith) in
+    let e = lesser-is (c .before .before .before .before .before .lesser .ensures) (omega arith) (omega arith) in
     omega (arith, e .0, e .1)
 
 loop-again : tie.Need-loop-again Inv-loop μ-loop
 loop-again c =
-    let at-in = c .before .before .before .before .before in
+    let at-in = c .before .before .before .before .before .before in
     let l = at-in .before in
     let at-width = l .before in
     let s = at-width .before .before .before .before in
@@ -108,8 +108,8 @@ loop-again c =
     let h = p .1 .1 in
     let t = at-in .loop-test .taken in
     let m = mod-lt (s .args .from + l .loop .i) (at-width .width-of .ensures .1) in
-    let e = lesser-is (c .before .before .before .before .lesser .ensures) (omega arith) (omega arith) in
-    (omega (arith, e .1), fill-slice _ _ _ _ _ _ _ _ _ (l .loop .inv .1) (c .before .fill-row .ensures))
+    let e = lesser-is (c .before .before .before .before .before .lesser .ensures) (omega arith) (omega arith) in
+    (omega (arith, e .1), fill-slice _ _ _ _ _ _ _ _ _ (l .loop .inv .1) (c .before .fill-row .ensures .0), c .before .fill-row .ensures .1)
 
 same-length : tie.Need-same-length Inv-loop μ-loop
 same-length c = ap length (c .before .loop .inv .1) ∙ length-fill _ _ _ _ _ _

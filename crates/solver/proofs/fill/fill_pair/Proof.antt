@@ -15,25 +15,25 @@ use Rattle.solver.proofs.fill.fill_pair.Statement.{statement}
 use Rattle.solver.proofs.fill.fill_pair.Tie as tie
 
 abbrev Inv-loop : tie.InvT-loop
-Inv-loop table recorded found plan work₀ u v q from count w k l g i₀ work i = (i ≤ count) × (work ≡ fill table recorded found work₀ from i)
+Inv-loop g table recorded found plan work₀ u v w k l first from count i₀ work i = (i ≤ count) × (work ≡ fill table recorded found work₀ from i)
 
 abbrev μ-loop : tie.MeasureT-loop
-μ-loop table recorded found plan work₀ u v q from count w k l g i₀ work i = count - i
+μ-loop g table recorded found plan work₀ u v w k l first from count i₀ work i = count - i
 
 vertex-pair-requires : tie.Need-vertex-pair-requires Inv-loop μ-loop
 vertex-pair-requires c κs =
     let p = c .before .before .before .pre in
-    (ready-accepted (p .0), (p .1 .1 .pair .u-low, p .1 .1 .pair .v-low))
+    (ready-accepted (p .0), (p .1 .1 .0 .pair .u-low, p .1 .1 .0 .pair .v-low))
 
 child-count-requires : tie.Need-child-count-requires Inv-loop μ-loop
 child-count-requires c κs =
     let p = c .before .before .before .before .pre in
-    pair-low (p .0) (p .1 .1 .pair) .0
+    pair-low (p .0) (p .1 .1 .0 .pair) .0
 
 degree-requires : tie.Need-degree-requires Inv-loop μ-loop
 degree-requires c κs =
     let p = c .before .before .before .before .before .pre in
-    pair-low (p .0) (p .1 .1 .pair) .1
+    pair-low (p .0) (p .1 .1 .0 .pair) .1
 
 is-forbidden-requires : tie.Need-is-forbidden-requires Inv-loop μ-loop
 is-forbidden-requires c κs = search needs
@@ -41,7 +41,7 @@ is-forbidden-requires c κs = search needs
 repeat-requires : tie.Need-repeat-requires Inv-loop μ-loop
 repeat-requires c κs =
     let p = c .before .before .before .before .before .before .before .before .before .pre in
-    omega (arith, p .1 .1 .enough, p .1 .0 .enough)
+    omega (arith, p .1 .1 .0 .enough, p .1 .0 .enough)
 
 same-length : tie.Need-same-length Inv-loop μ-loop
 same-length c = ap length (c .before .repeat .ensures) ∙ length-repeated _ _ _ _
@@ -60,7 +60,7 @@ stored-value-requires c κs =
 repeat-requires-2 : tie.Need-repeat-requires-2 Inv-loop μ-loop
 repeat-requires-2 c κs =
     let p = c .before .before .before .before .before .before .before .before .before .before .before .pre in
-    omega (arith, p .1 .1 .enough, p .1 .0 .enough)
+    omega (arith, p .1 .1 .0 .enough, p .1 .0 .enough)
 
 same-length-2 : tie.Need-same-length-2 Inv-loop μ-loop
 same-length-2 c = ap length (c .before .repeat2 .ensures) ∙ length-repeated _ _ _ _
@@ -76,12 +76,12 @@ returns-2 c =
     let b : Same (at-pair .vertex-pair .result) = back (at-pair .vertex-pair .ok) in
     let at-stored = c .before .before in
     let d : Same (at-stored .stored-value .result) = back (at-stored .stored-value .ok) in
-    (rw d at (c .before .repeat2 .ensures)) ∙ run-leaf (p .0) (p .1 .1) _ _ (at-pair .vertex-pair .ensures) (sym (rw b at (at-forbidden .is-forbidden .ensures)) ∙ c .before .before .before .before .before .if1 .left) (sym (at-children .child-count .ensures) ∙ c .before .before .before .before .if2 .taken) ((rw b at (at-stored .stored-value .ensures)) .is) _
+    ((rw d at (c .before .repeat2 .ensures)) ∙ run-leaf (p .0) (p .1 .1 .0) _ _ (at-pair .vertex-pair .ensures) (sym (rw b at (at-forbidden .is-forbidden .ensures)) ∙ c .before .before .before .before .before .if1 .left) (sym (at-children .child-count .ensures) ∙ c .before .before .before .before .if2 .taken) ((rw b at (at-stored .stored-value .ensures)) .is) _, p .1 .1 .1)
 
 gains-requires : tie.Need-gains-requires Inv-loop μ-loop
 gains-requires c κs =
     let p = c .before .before .before .before .before .before .before .before .before .before .before .pre in
-    (refl, (p .0, (p .1 .0, p .1 .1 .pair)))
+    (p .1 .1 .1, (p .0, (p .1 .0, p .1 .1 .0 .pair)))
 
 loop-holds : tie.Need-loop-holds Inv-loop μ-loop
 loop-holds c = (omega arith, fill-none _ _ _ _ _)
@@ -89,8 +89,8 @@ loop-holds c = (omega arith, fill-none _ _ _ _ _)
 add-heaviest : tie.Need-add-heaviest Inv-loop μ-loop
 add-heaviest c =
     let p = c .before .before .before .before .before .before .before .before .before .before .before .before .before .before .before .pre in
-    let h = p .1 .1 .choice _ (c .before .loop-test .taken) in
-    omega (arith, degree-few (p .0) (p .1 .1 .pair))
+    let h = p .1 .1 .0 .choice _ (c .before .loop-test .taken) in
+    omega (arith, degree-few (p .0) (p .1 .1 .0 .pair))
 
 heaviest-requires : tie.Need-heaviest-requires Inv-loop μ-loop
 heaviest-requires c κs =
@@ -103,7 +103,7 @@ heaviest-requires c κs =
     let s = at-pair .before .before .before .before in
     let p = s .pre in
     let D = at-gains .gains .ensures in
-    (D .long, run-table (p .0) (p .1 .1) _ _ _ _ (at-children .child-count .ensures) (at-degree .degree .ensures) D _ (c .before .loop-test .taken))
+    (D .long, run-table (p .0) (p .1 .1 .0) _ _ _ _ (at-children .child-count .ensures) (at-degree .degree .ensures) D _ (c .before .loop-test .taken))
 
 stored-value-requires-2 : tie.Need-stored-value-requires-2 Inv-loop μ-loop
 stored-value-requires-2 c κs =
@@ -121,7 +121,7 @@ stored-value-requires-2 c κs =
 add-x : tie.Need-add-x Inv-loop μ-loop
 add-x c =
     let p = c .before .before .before .before .before .before .before .before .before .before .before .before .before .before .before .before .before .pre in
-    let h = p .1 .1 .enough in
+    let h = p .1 .1 .0 .enough in
     let t = c .before .before .before .loop-test .taken in
     let n = number-few (p .0) in
     omega arith
@@ -129,7 +129,7 @@ add-x c =
 mul-x : tie.Need-mul-x Inv-loop μ-loop
 mul-x c =
     let p = c .before .before .before .before .before .before .before .before .before .before .before .before .before .before .before .before .before .pre in
-    let h = p .1 .1 .enough in
+    let h = p .1 .1 .0 .enough in
     let t = c .before .before .before .loop-test .taken in
     let n = number-few (p .0) in
     omega arith
@@ -138,9 +138,17 @@ slice-set-from-x : tie.Need-slice-set-from-x Inv-loop μ-loop
 slice-set-from-x c =
     let l = c .before .before .before .before in
     let p = l .before .before .before .before .before .before .before .before .before .before .before .before .before .pre in
-    let h = p .1 .1 .enough in
+    let h = p .1 .1 .0 .enough in
     let t = c .before .before .before .loop-test .taken in
     let n = fill-lent _ _ _ _ _ _ _ (p .1 .0) (l .loop .inv .1) .enough in
+    omega arith
+
+add-i : tie.Need-add-i Inv-loop μ-loop
+add-i c =
+    let p = c .before .before .before .before .before .before .before .before .before .before .before .before .before .before .before .before .before .pre in
+    let h = p .1 .1 .0 .enough in
+    let t = c .before .before .before .loop-test .taken in
+    let n = number-few (p .0) in
     omega arith
 
 loop-again : tie.Need-loop-again Inv-loop μ-loop
@@ -156,7 +164,7 @@ loop-again c =
     let b : Same (at-pair .vertex-pair .result) = back (at-pair .vertex-pair .ok) in
     let t = c .before .before .before .loop-test .taken in
     let d : Same (c .stored-value2 .result) = back (c .stored-value2 .ok) in
-    (omega arith, rw d (fill-next _ _ _ _ _ _ _ _ (l .loop .inv .1) (run-number (p .0) (p .1 .1) _ _ _ _ (at-children .child-count .ensures) (at-degree .degree .ensures) (at-gains .gains .ensures) _ (at-pair .vertex-pair .ensures) (sym (rw b at (at-forbidden .is-forbidden .ensures)) ∙ at-gains .before .before .before .before .if1 .left) _ t _ _ (c .before .heaviest .ensures) ((rw b at (c .stored-value2 .ensures)) .is))))
+    (omega arith, rw d (fill-next _ _ _ _ _ _ _ _ (l .loop .inv .1) (run-number (p .0) (p .1 .1 .0) _ _ _ _ (at-children .child-count .ensures) (at-degree .degree .ensures) (at-gains .gains .ensures) _ (at-pair .vertex-pair .ensures) (sym (rw b at (at-forbidden .is-forbidden .ensures)) ∙ at-gains .before .before .before .before .if1 .left) _ t _ _ (c .before .heaviest .ensures) ((rw b at (c .stored-value2 .ensures)) .is))))
 
 same-length-3 : tie.Need-same-length-3 Inv-loop μ-loop
 same-length-3 c = ap length (c .before .loop .inv .1) ∙ length-fill _ _ _ _ _ _
@@ -165,8 +173,8 @@ returns-3 : tie.Need-returns-3 Inv-loop μ-loop
 returns-3 c =
     let l = c .before in
     let s = l .before .before .before .before .before .before .before .before .before .before .before .before .before in
-    let e : l .loop .i ≡ s .args .count = omega arith in
-    rw e at (l .loop .inv .1)
+    let e : l .loop .i ≡ s .args .run .count = omega arith in
+    (rw e at (l .loop .inv .1), l .before .gains .ensures .long)
 
 returns : tie.Need-returns Inv-loop μ-loop
 returns c =
@@ -177,7 +185,7 @@ returns c =
     let s = at-pair .before .before .before .before in
     let p = s .pre in
     let b : Same (at-pair .vertex-pair .result) = back (at-pair .vertex-pair .ok) in
-    c .before .repeat .ensures ∙ run-forbidden (p .0) (p .1 .1) _ (at-pair .vertex-pair .ensures) (sym (rw b at (at-forbidden .is-forbidden .ensures)) ∙ c .before .before .before .if1 .taken) _
+    (c .before .repeat .ensures ∙ run-forbidden (p .0) (p .1 .1 .0) _ (at-pair .vertex-pair .ensures) (sym (rw b at (at-forbidden .is-forbidden .ensures)) ∙ c .before .before .before .if1 .taken) _, p .1 .1 .1)
 
 pub fill-pair-spec : {M : Type 1} → statement M
 fill-pair-spec =
@@ -204,7 +212,7 @@ fill-pair-spec =
     add-x
     mul-x
     slice-set-from-x
-    (λ c. search needs)
+    add-i
     (λ c. search needs)
     loop-again
     same-length-3

@@ -13,10 +13,10 @@ use Rattle.solver.proofs.fill.fill_row.Statement.{statement}
 use Rattle.solver.proofs.fill.fill_row.Tie as tie
 
 abbrev Inv-loop : tie.InvT-loop
-Inv-loop table recorded found plan work₀ u rest from count m v₀ i₀ work v i = (i ≤ count) × (work ≡ fill table recorded found work₀ from i) × (v < m) × (0 < v → offsetIn plan v ≤ rest + i)
+Inv-loop g₀ table recorded found plan work₀ u m first from count v₀ i₀ g work v i = (i ≤ count) × (work ≡ fill table recorded found work₀ from i) × (v < m) × (0 < v → offsetIn plan v ≤ first + i) × (length g ≡ 64)
 
 abbrev μ-loop : tie.MeasureT-loop
-μ-loop table recorded found plan work₀ u rest from count m v₀ i₀ work v i = count - i
+μ-loop g₀ table recorded found plan work₀ u m first from count v₀ i₀ g work v i = count - i
 
 vertex-count-requires : tie.Need-vertex-count-requires Inv-loop μ-loop
 vertex-count-requires c κs =
@@ -26,7 +26,7 @@ vertex-count-requires c κs =
 loop-holds : tie.Need-loop-holds Inv-loop μ-loop
 loop-holds c =
     let e = ready-accepted (c .before .before .before .before .pre .0) .found .ends in
-    (omega arith, fill-none _ _ _ _ _, omega (arith, c .vertex-count .ensures, e .some), λ h. absurd (omega arith))
+    (omega arith, fill-none _ _ _ _ _, omega (arith, c .vertex-count .ensures, e .some), λ h. absurd (omega arith), c .before .before .before .before .pre .1 .1 .1)
 
 add-locate : tie.Need-add-locate Inv-loop μ-loop
 add-locate c =
@@ -35,7 +35,7 @@ add-locate c =
     let at-count = l .before in
     let s = at-count .before .before .before .before in
     let p = s .pre in
-    omega (arith, run-rest (p .0) (p .1 .1) _ (at-in .loop-test .taken))
+    omega (arith, run-rest (p .0) (p .1 .1 .0) _ (at-in .loop-test .taken))
 
 locate-requires : tie.Need-locate-requires Inv-loop μ-loop
 locate-requires c κs =
@@ -53,7 +53,7 @@ add-q c =
     let at-count = l .before in
     let s = at-count .before .before .before .before in
     let p = s .pre in
-    omega (arith, run-rest (p .0) (p .1 .1) _ (at-in .loop-test .taken))
+    omega (arith, run-rest (p .0) (p .1 .1 .0) _ (at-in .loop-test .taken))
 
 offset-requires : tie.Need-offset-requires Inv-loop μ-loop
 offset-requires c κs =
@@ -63,7 +63,7 @@ offset-requires c κs =
     let at-count = l .before in
     let s = at-count .before .before .before .before in
     let p = s .pre in
-    let a = run-room (p .0) (p .1 .1) _ (at-in .loop-test .taken) (at-count .vertex-count .ensures) (at-locate .locate .ensures) in
+    let a = run-room (p .0) (p .1 .1 .0) _ (at-in .loop-test .taken) (at-count .vertex-count .ensures) (at-locate .locate .ensures) in
     omega (arith, a .0, ready-accepted (p .0) .found .ends .few)
 
 sub-q : tie.Need-sub-q Inv-loop μ-loop
@@ -74,7 +74,7 @@ sub-q c =
     let at-count = l .before in
     let s = at-count .before .before .before .before in
     let p = s .pre in
-    let a = run-room (p .0) (p .1 .1) _ (at-in .loop-test .taken) (at-count .vertex-count .ensures) (at-locate .locate .ensures) in
+    let a = run-room (p .0) (p .1 .1 .0) _ (at-in .loop-test .taken) (at-count .vertex-count .ensures) (at-locate .locate .ensures) in
     omega (arith, a .1, c .offset .ensures)
 
 sub-lesser : tie.Need-sub-lesser Inv-loop μ-loop
@@ -88,7 +88,7 @@ degree-requires c κs =
     let at-count = l .before in
     let s = at-count .before .before .before .before in
     let p = s .pre in
-    let a = run-room (p .0) (p .1 .1) _ (at-in .loop-test .taken) (at-count .vertex-count .ensures) (at-locate .locate .ensures) in
+    let a = run-room (p .0) (p .1 .1 .0) _ (at-in .loop-test .taken) (at-count .vertex-count .ensures) (at-locate .locate .ensures) in
     omega (arith, a .0, ready-accepted (p .0) .found .ends .few)
 
 add-lesser : tie.Need-add-lesser Inv-loop μ-loop
@@ -99,7 +99,7 @@ add-lesser c =
     let at-count = l .before in
     let s = at-count .before .before .before .before in
     let p = s .pre in
-    let a = run-room (p .0) (p .1 .1) _ (at-in .loop-test .taken) (at-count .vertex-count .ensures) (at-locate .locate .ensures) in
+    let a = run-room (p .0) (p .1 .1 .0) _ (at-in .loop-test .taken) (at-count .vertex-count .ensures) (at-locate .locate .ensures) in
     omega (arith, a .3, c .degree .ensures)
 
 sub-lesser-2 : tie.Need-sub-lesser-2 Inv-loop μ-loop
@@ -110,79 +110,79 @@ sub-lesser-2 c =
     let at-count = l .before in
     let s = at-count .before .before .before .before in
     let p = s .pre in
-    let a = run-room (p .0) (p .1 .1) _ (at-in .loop-test .taken) (at-count .vertex-count .ensures) (at-locate .locate .ensures) in
+    let a = run-room (p .0) (p .1 .1 .0) _ (at-in .loop-test .taken) (at-count .vertex-count .ensures) (at-locate .locate .ensures) in
     omega (arith, a .2, c .degree .ensures, c .before .offset .ensures)
 
 lesser-requires : tie.Need-lesser-requires Inv-loop μ-loop
 lesser-requires c κs = search needs
 
-add-fill-pair : tie.Need-add-fill-pair Inv-loop μ-loop
-add-fill-pair c =
-    let at-locate = c .before .before .before .before in
+add-t20 : tie.Need-add-t20 Inv-loop μ-loop
+add-t20 c =
+    let at-locate = c .before .before .before in
     let at-in = at-locate .before in
     let l = at-in .before in
     let at-count = l .before in
     let s = at-count .before .before .before .before in
     let p = s .pre in
-    let a = run-room (p .0) (p .1 .1) _ (at-in .loop-test .taken) (at-count .vertex-count .ensures) (at-locate .locate .ensures) in
-    let h = p .1 .1 .enough in
+    let a = run-room (p .0) (p .1 .1 .0) _ (at-in .loop-test .taken) (at-count .vertex-count .ensures) (at-locate .locate .ensures) in
+    let h = p .1 .1 .0 .enough in
     let t = at-in .loop-test .taken in
     let n = number-few (p .0) in
     omega arith
 
 fill-pair-requires : tie.Need-fill-pair-requires Inv-loop μ-loop
 fill-pair-requires c κs =
-    let at-locate = c .before .before .before .before in
+    let at-locate = c .before .before .before .before .before in
     let at-in = at-locate .before in
     let l = at-in .before in
     let at-count = l .before in
     let s = at-count .before .before .before .before in
     let p = s .pre in
-    let a = run-room (p .0) (p .1 .1) _ (at-in .loop-test .taken) (at-count .vertex-count .ensures) (at-locate .locate .ensures) in
-    let at-degree = c .before .before in
-    let e = lesser-is (c .before .lesser .ensures) (omega (arith, at-in .loop-test .taken)) (omega (arith, a .2, c .before .before .degree .ensures, c .before .before .before .offset .ensures)) in
-    (p .0, (fill-lent _ _ _ _ _ _ _ (p .1 .0) (l .loop .inv .1), pair-run (p .0) (p .1 .1) _ (at-in .loop-test .taken) (at-count .vertex-count .ensures) (at-locate .locate .ensures) (rw (at-degree .before .offset .ensures)) (e .1) (rw (← at-degree .degree .ensures) (e .2))))
+    let a = run-room (p .0) (p .1 .1 .0) _ (at-in .loop-test .taken) (at-count .vertex-count .ensures) (at-locate .locate .ensures) in
+    let at-degree = c .before .before .before in
+    let e = lesser-is (c .before .before .lesser .ensures) (omega (arith, at-in .loop-test .taken)) (omega (arith, a .2, c .before .before .before .degree .ensures, c .before .before .before .before .offset .ensures)) in
+    (p .0, (fill-lent _ _ _ _ _ _ _ (p .1 .0) (l .loop .inv .1), (pair-run (p .0) (p .1 .1 .0) _ (at-in .loop-test .taken) (at-count .vertex-count .ensures) (at-locate .locate .ensures) (rw (at-degree .before .offset .ensures)) (e .1) (rw (← at-degree .degree .ensures) (e .2)), l .loop .inv .4)))
 
 add-i : tie.Need-add-i Inv-loop μ-loop
 add-i c =
-    let at-locate = c .before .before .before .before .before .before in
+    let at-locate = c .before .before .before .before .before .before .before in
     let at-in = at-locate .before in
     let l = at-in .before in
     let at-count = l .before in
     let s = at-count .before .before .before .before in
     let p = s .pre in
-    let a = run-room (p .0) (p .1 .1) _ (at-in .loop-test .taken) (at-count .vertex-count .ensures) (at-locate .locate .ensures) in
-    let e = lesser-is (c .before .before .before .lesser .ensures) (omega (arith, at-in .loop-test .taken)) (omega (arith, a .2, c .before .before .before .before .degree .ensures, c .before .before .before .before .before .offset .ensures)) in
-    let h = p .1 .1 .enough in
+    let a = run-room (p .0) (p .1 .1 .0) _ (at-in .loop-test .taken) (at-count .vertex-count .ensures) (at-locate .locate .ensures) in
+    let e = lesser-is (c .before .before .before .before .lesser .ensures) (omega (arith, at-in .loop-test .taken)) (omega (arith, a .2, c .before .before .before .before .before .degree .ensures, c .before .before .before .before .before .before .offset .ensures)) in
+    let h = p .1 .1 .0 .enough in
     let t = at-in .loop-test .taken in
     let n = number-few (p .0) in
     omega (arith, e .1)
 
 loop-less : tie.Need-loop-less Inv-loop μ-loop
 loop-less c =
-    let at-locate = c .before .before .before .before .before .before in
+    let at-locate = c .before .before .before .before .before .before .before in
     let at-in = at-locate .before in
     let l = at-in .before in
     let at-count = l .before in
     let s = at-count .before .before .before .before in
     let p = s .pre in
-    let a = run-room (p .0) (p .1 .1) _ (at-in .loop-test .taken) (at-count .vertex-count .ensures) (at-locate .locate .ensures) in
-    let e = lesser-is (c .before .before .before .lesser .ensures) (omega (arith, at-in .loop-test .taken)) (omega (arith, a .2, c .before .before .before .before .degree .ensures, c .before .before .before .before .before .offset .ensures)) in
+    let a = run-room (p .0) (p .1 .1 .0) _ (at-in .loop-test .taken) (at-count .vertex-count .ensures) (at-locate .locate .ensures) in
+    let e = lesser-is (c .before .before .before .before .lesser .ensures) (omega (arith, at-in .loop-test .taken)) (omega (arith, a .2, c .before .before .before .before .before .degree .ensures, c .before .before .before .before .before .before .offset .ensures)) in
     let t = at-in .loop-test .taken in
     omega (arith, e .0, e .1)
 
 loop-again : tie.Need-loop-again Inv-loop μ-loop
 loop-again c =
-    let at-locate = c .before .before .before .before .before .before in
+    let at-locate = c .before .before .before .before .before .before .before in
     let at-in = at-locate .before in
     let l = at-in .before in
     let at-count = l .before in
     let s = at-count .before .before .before .before in
     let p = s .pre in
-    let a = run-room (p .0) (p .1 .1) _ (at-in .loop-test .taken) (at-count .vertex-count .ensures) (at-locate .locate .ensures) in
-    let e = lesser-is (c .before .before .before .lesser .ensures) (omega (arith, at-in .loop-test .taken)) (omega (arith, a .2, c .before .before .before .before .degree .ensures, c .before .before .before .before .before .offset .ensures)) in
+    let a = run-room (p .0) (p .1 .1 .0) _ (at-in .loop-test .taken) (at-count .vertex-count .ensures) (at-locate .locate .ensures) in
+    let e = lesser-is (c .before .before .before .before .lesser .ensures) (omega (arith, at-in .loop-test .taken)) (omega (arith, a .2, c .before .before .before .before .before .degree .ensures, c .before .before .before .before .before .before .offset .ensures)) in
     let t = at-in .loop-test .taken in
-    (omega (arith, e .1), fill-slice _ _ _ _ _ _ _ _ _ (l .loop .inv .1) (c .before .fill-pair .ensures), omega (arith, a .0, at-count .vertex-count .ensures), λ z. omega (arith, a .1))
+    (omega (arith, e .1), fill-slice _ _ _ _ _ _ _ _ _ (l .loop .inv .1) (c .before .fill-pair .ensures .0), omega (arith, a .0, at-count .vertex-count .ensures), λ z. omega (arith, a .1), c .before .fill-pair .ensures .1)
 
 same-length : tie.Need-same-length Inv-loop μ-loop
 same-length c = ap length (c .before .loop .inv .1) ∙ length-fill _ _ _ _ _ _
@@ -190,7 +190,7 @@ same-length c = ap length (c .before .loop .inv .1) ∙ length-fill _ _ _ _ _ _
 returns : tie.Need-returns Inv-loop μ-loop
 returns c =
     let s = c .before .before .before .before .before .before in
-    let e : c .before .loop .i ≡ s .args .count = omega arith in rw e at (c .before .loop .inv .1)
+    let e : c .before .loop .i ≡ s .args .run .count = omega arith in (rw e at (c .before .loop .inv .1), c .before .loop .inv .4)
 
 pub fill-row-spec : {M : Type 1} → statement M
 fill-row-spec =
@@ -210,7 +210,7 @@ fill-row-spec =
     add-lesser
     sub-lesser-2
     lesser-requires
-    add-fill-pair
+    add-t20
     fill-pair-requires
     add-i
     loop-less
