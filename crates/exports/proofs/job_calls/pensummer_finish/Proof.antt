@@ -37,18 +37,18 @@ use denote.Triple.Spec.{Meets, tripleOf}
 use denote.Triple.Table.{entered, cited}
 use denote.Triple.Walked.{says, Stays, stay-dropped, gave-slice, walkOf, AllGo, goes-dropped, goes-gave-slice, Walks, ends-at, walked, walk-meets}
 use denote.Exit.{yes}
-use Rattle.exports.specs.declared.job_calls.JobMemory.{JobMemory}
-use Rattle.exports.proofs.job_calls.JobMemory as T
-use Rattle.exports.proofs.job_calls.JobMemory.Laws as T′
-use Rattle.exports.specs.declared.MatchResult.{MatchResult}
-use Rattle.exports.specs.Exported.{Finishes}
-use Rattle.exports.specs.Memory.{recordOf}
-use Rattle.exports.proofs.MatchResult as S
-use Rattle.exports.proofs.MatchResult.Laws as S′
-use Rattle.exports.proofs.job_calls.finish_result as core
-use Rattle.exports.proofs.job_calls.finish_result.Symbol as core-def
-use Rattle.exports.proofs.job_calls.finish_result.Symbol.{name as #exports·job-calls·finish-result}
-use Rattle.exports.proofs.job_calls.finish_result.Met as core-thm
+use Rattle.call_numbers.specs.declared.job_numbers.JobMemory.{JobMemory}
+use Rattle.call_numbers.proofs.job_numbers.JobMemory as T
+use Rattle.call_numbers.proofs.job_numbers.JobMemory.Laws as T′
+use Rattle.call_numbers.specs.declared.MatchResult.{MatchResult}
+use Rattle.call_numbers.specs.Exported.{Finishes}
+use Rattle.call_numbers.specs.Memory.{recordOf}
+use Rattle.call_numbers.proofs.MatchResult as S
+use Rattle.call_numbers.proofs.MatchResult.Laws as S′
+use Rattle.call_numbers.proofs.job_numbers.finish_result as core
+use Rattle.call_numbers.proofs.job_numbers.finish_result.Symbol as core-def
+use Rattle.call_numbers.proofs.job_numbers.finish_result.Symbol.{name as #call-numbers·job-numbers·finish-result}
+use Rattle.call_numbers.proofs.job_numbers.finish_result.Met as core-thm
 use Rattle.exports.proofs.job_calls.pensummer_finish.Key.{name as #exports·job-calls·pensummer-finish}
 use Rattle.exports.proofs.job_calls.pensummer_finish as this
 use Rattle.exports.proofs.job_calls.pensummer_finish.Statement as stated
@@ -128,7 +128,7 @@ module _ {M : Type 1} (𝓤 : URA M) (H : Heap 𝓤) (A : Atoms 𝓤) (W : Given
       -- [the result; what says the last list]
       move ! (1 ∷ []) $ nothing ! $ move ! (1 ∷ 0 ∷ []) $ fjoin ! $ nothing ! $ fjoin ! $ nothing ! $ fjoin ! $ nothing ! $ fjoin ! $ nothing ! $ fjoin ! $ nothing ! $ fjoin ! $ done !
 
-  module _ (C : Calls 𝓤 H) (Λ : Loops 𝓤 H) (fm : FmC 𝓤 H (W .laws) C) (known : Triple 𝓤 (C #exports·job-calls·finish-result) (Core 𝓤 H A at-mem run)) where
+  module _ (C : Calls 𝓤 H) (Λ : Loops 𝓤 H) (fm : FmC 𝓤 H (W .laws) C) (known : Triple 𝓤 (C #call-numbers·job-numbers·finish-result) (Core 𝓤 H A at-mem run)) where
     walk : length (x₁ .now) < 2 ^ 64 → length (x₂ .now) < 2 ^ 64 → length (x₃ .now) < 2 ^ 64 → length (x₄ .now) < 2 ^ 64 → length (x₅ .now) < 2 ^ 64
         → ent 𝓤 (onEntry 𝓤 H A this.signature (y .0 .0) (y .0 .1) a vss) (WpFn 𝓤 H C Λ code.function (vptr b o ∷ sl x₁ ∷ sl x₂ ∷ sl x₃ ∷ sl x₄ ∷ sl x₅ ∷ []) Post)
     walk f₁ f₂ f₃ f₄ f₅ =
@@ -162,7 +162,7 @@ module _ {M : Type 1} (𝓤 : URA M) (H : Heap 𝓤) (A : Atoms 𝓤) (W : Given
         keep ! (0 ∷ 1 ∷ 2 ∷ 3 ∷ []) $ by ! (exits r u (ws .1 .1 .1 .1 .1 .0) e l)))))))))))))))))))
 
 module _ {M : Type 1} (𝓤 : URA M) (H : Heap 𝓤) (A : Atoms 𝓤) (W : Given 𝓤 H A) (mem : Memory → SProp 𝓤) (run : Routine → Fun 𝓤) where
-  walks : (C : Calls 𝓤 H) (Λ : Loops 𝓤 H) → FmC 𝓤 H (W .laws) C → Triple 𝓤 (C #exports·job-calls·finish-result) (Core 𝓤 H A mem run) → Walks 𝓤 H A this.ended stayed (WpFn 𝓤 H C Λ code.function) (this.clauses 𝓤 H A mem run)
+  walks : (C : Calls 𝓤 H) (Λ : Loops 𝓤 H) → FmC 𝓤 H (W .laws) C → Triple 𝓤 (C #call-numbers·job-numbers·finish-result) (Core 𝓤 H A mem run) → Walks 𝓤 H A this.ended stayed (WpFn 𝓤 H C Λ code.function) (this.clauses 𝓤 H A mem run)
   walks C Λ fm known = walked 𝓤 H A this.ended stayed (this.clauses 𝓤 H A mem run) (WpFn 𝓤 H C Λ code.function) (λ κs. (ptr-vals, (slice-vals, (slice-vals, (slice-vals, (slice-vals, (slice-vals, tt)))))))
       (λ κs. (shr-tells (named 0) (κs .0) R, (shr-slice-tells (named 1) (κs .1 .0) u8, (shr-slice-tells (named 2) (κs .1 .1 .0) u8, (shr-slice-tells (named 3) (κs .1 .1 .1 .0) u8, (shr-slice-tells (named 4) (κs .1 .1 .1 .1 .0) i32, (mut-slice-tells (named 5) (κs .1 .1 .1 .1 .1 .0) u8, tt)))))))
       (λ κs qs bounds a g are. via 𝓤 _ (fst∗ 𝓤 _ (emp 𝓤))
@@ -181,7 +181,7 @@ module _ {M : Type 1} (𝓤 : URA M) (H : Heap 𝓤) (A : Atoms 𝓤) (W : Given
     ),
   )
 
-meets : {M : Type 1} (𝓤 : URA M) (H : Heap 𝓤) (A : Atoms 𝓤) → Given 𝓤 H A → (mem : Memory → SProp 𝓤) (run : Routine → Fun 𝓤) (𝓣 : Tables 𝓤 H) → Triple 𝓤 (𝓣 .C #exports·job-calls·finish-result) (Core 𝓤 H A mem run)
+meets : {M : Type 1} (𝓤 : URA M) (H : Heap 𝓤) (A : Atoms 𝓤) → Given 𝓤 H A → (mem : Memory → SProp 𝓤) (run : Routine → Fun 𝓤) (𝓣 : Tables 𝓤 H) → Triple 𝓤 (𝓣 .C #call-numbers·job-numbers·finish-result) (Core 𝓤 H A mem run)
     → Meets 𝓤 H A this.signature (WpFn 𝓤 H (𝓣 .C) (𝓣 .Λ) code.function) (this.spec 𝓤 H A mem run)
 meets 𝓤 H A W mem run 𝓣 known =
     walk-meets 𝓤 H A this.ended stayed W (goes 𝓤 H A W mem run) (this.clauses 𝓤 H A mem run)
@@ -193,4 +193,4 @@ pensummer-finish-spec 𝓤 H 𝓜 𝓖 𝓡 =
     entered 𝓤 H (tripleOf 𝓤 H (𝓖 .A) this.signature (this.spec 𝓤 H (𝓖 .A) (𝓜 .mem) (𝓡 .run)))
     (tables 𝓤 H 𝓜 𝓡 code.env .C) (tables 𝓤 H 𝓜 𝓡 code.env .Λ) #exports·job-calls·pensummer-finish code.function (code.unfolded 𝓤 H 𝓜 𝓡)
     (meets 𝓤 H (𝓖 .A) (givenOf 𝓤 H 𝓜 𝓖) (𝓜 .mem) (𝓡 .run) (tablesOf 𝓤 H 𝓜 (tables 𝓤 H 𝓜 𝓡 code.env))
-    (cited 𝓤 H (Core 𝓤 H (𝓖 .A) (𝓜 .mem) (𝓡 .run)) 𝓜 𝓡 code.env #exports·job-calls·finish-result core-def.routine code.calls-exports·job-calls·finish-result (core-thm.met 𝓤 H 𝓜 𝓖 𝓡)))
+    (cited 𝓤 H (Core 𝓤 H (𝓖 .A) (𝓜 .mem) (𝓡 .run)) 𝓜 𝓡 code.env #call-numbers·job-numbers·finish-result core-def.routine code.calls-call-numbers·job-numbers·finish-result (core-thm.met 𝓤 H 𝓜 𝓖 𝓡)))

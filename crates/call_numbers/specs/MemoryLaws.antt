@@ -1,0 +1,62 @@
+-- Laws of the caller's record: it stands for the record that the definitions leave, and a call that is refused leaves it bit for bit. Assumes
+-- nothing.
+use mathlib.Core.Path.{_≡_, refl, sym, ap, _∙_}
+use mathlib.Core.Logic.{_≢_, ⊎-elim}
+use mathlib.Core.Bool.{Bool, true, false, not, cond}
+use mathlib.Core.List.{List}
+use Prim.Native.Nat.{ℕ}
+use lib.Dec.{eqb}
+use lib.IntN.{ℤ}
+use borrow.Author.Tests.{eq-eqb, ne-eqb}
+use Rattle.foundations.specs.Tests.{same?}
+use Rattle.model.specs.declared.JobRecord.{JobRecord}
+use Rattle.model.specs.Jobs.{startItem, advanceItem, startOf, advanceOf}
+use Rattle.jobs.specs.Theorems.{start-keeps, advance-keeps}
+use Rattle.call_numbers.specs.declared.job_numbers.JobMemory.{JobMemory}
+use Rattle.call_numbers.specs.Memory.{recordOf, memoryOf, memoryAfter, startMemory, advanceMemory}
+
+-- what goes by an item: where none applies, and where one does
+pub where-none : {A : Type 0} (k : ℕ) (x y : A) → k ≡ 0 → cond (eqb k 0) x y ≡ x
+where-none k x y e = rw (eq-eqb k 0 e)
+
+pub where-item : {A : Type 0} (k : ℕ) (x y : A) → k ≢ 0 → cond (eqb k 0) x y ≡ y
+where-item k x y n = rw (ne-eqb k 0 n)
+
+idle-back : (b : Bool) → not (eqb (cond b 1 0) 0) ≡ b
+idle-back true = refl
+idle-back false = refl
+
+-- a record comes back from its memory
+pub record-back : (j : JobRecord) → recordOf (memoryOf j) ≡ j
+unfolding recordOf memoryOf
+record-back j = ap (λ (b : Bool). record { idle = b; n = j .n; m = j .m; position = j .position; total = j .total }) (idle-back (j .idle))
+
+pub after-refused : (k : ℕ) (x : JobMemory) (j : JobRecord) → k ≢ 0 → memoryAfter k x j ≡ x
+unfolding memoryAfter
+after-refused k x j = where-item k (memoryOf j) x
+
+pub after-accepted : (k : ℕ) (x : JobMemory) (j : JobRecord) → k ≡ 0 → memoryAfter k x j ≡ memoryOf j
+unfolding memoryAfter
+after-accepted k x j = where-none k (memoryOf j) x
+
+-- where a refused call keeps the record, the memory stands for the record after the call either way
+after-record : (k : ℕ) (x : JobMemory) (j : JobRecord) → (k ≢ 0 → j ≡ recordOf x) → recordOf (memoryAfter k x j) ≡ j
+after-record k x j keeps = ⊎-elim (λ e. ap recordOf (after-accepted k x j e) ∙ record-back j) (λ n. ap recordOf (after-refused k x j n) ∙ sym (keeps n)) (same? k 0)
+
+module _ (x : JobMemory) (table r f : List ℕ) (work : List ℤ) where
+  pub start-memory-kept : startItem table r f work ≢ 0 → startMemory x table r f work ≡ x
+  unfolding startMemory
+  start-memory-kept n = after-refused (startItem table r f work) x (startOf (recordOf x) table r f work .job) n
+
+  pub start-memory-record : recordOf (startMemory x table r f work) ≡ startOf (recordOf x) table r f work .job
+  unfolding startMemory
+  start-memory-record = after-record (startItem table r f work) x (startOf (recordOf x) table r f work .job) (start-keeps (recordOf x) table r f work)
+
+  module _ (b : ℕ) where
+    pub advance-memory-kept : advanceItem (recordOf x) table r f work ≢ 0 → advanceMemory x table r f b work ≡ x
+    unfolding advanceMemory
+    advance-memory-kept n = after-refused (advanceItem (recordOf x) table r f work) x (advanceOf (recordOf x) table r f b work .job) n
+
+    pub advance-memory-record : recordOf (advanceMemory x table r f b work) ≡ advanceOf (recordOf x) table r f b work .job
+    unfolding advanceMemory
+    advance-memory-record = after-record (advanceItem (recordOf x) table r f work) x (advanceOf (recordOf x) table r f b work .job) (λ n. advance-keeps (recordOf x) table r f work b n .0)
