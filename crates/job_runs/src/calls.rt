@@ -1,15 +1,11 @@
-//! The calls on the three parts of an input, and a job in slices of one budget.
-use crate::memory::clear_bytes;
-use crate::memory::clear_numbers;
-use formats::split::split;
+//! The match in one call, and a job in slices of one budget.
+use job_lines::memory::clear_bytes;
+use job_lines::memory::clear_numbers;
 use jobs::advance_core;
-use jobs::finish;
 use jobs::start_core;
 use model::AdvanceAnswer;
-use model::AdvanceOutcome;
 use model::JobRecord;
 use model::MatchAnswer;
-use model::StartOutcome;
 use one_call::match_trees;
 
 // A job after slices, and how many advances solved something.
@@ -24,55 +20,16 @@ struct Slice {
     solved: bool,
 }
 
-pub fn start_plant(job: JobRecord, input: &[u8], work: &[i32]) -> StartOutcome {
-    let p = split(input);
-    let a = p.recorded;
-    let b = p.found;
-    let table = &input[0..a];
-    let recorded = &input[a..b];
-    let found = &input[b..];
-    start_core(job, table, recorded, found, work)
-}
-
-pub fn advance_plant(
-    job: JobRecord,
-    input: &[u8],
-    budget: u32,
-    work: &mut [i32],
-) -> AdvanceOutcome {
-    let p = split(input);
-    let a = p.recorded;
-    let b = p.found;
-    let table = &input[0..a];
-    let recorded = &input[a..b];
-    let found = &input[b..];
-    advance_core(job, table, recorded, found, budget, work)
-}
-
-pub fn finish_plant(job: JobRecord, input: &[u8], work: &[i32], mapping: &mut [u8]) -> MatchAnswer {
-    let p = split(input);
-    let a = p.recorded;
-    let b = p.found;
-    let table = &input[0..a];
-    let recorded = &input[a..b];
-    let found = &input[b..];
-    finish(job, table, recorded, found, work, mapping)
-}
-
-fn match_plant(input: &[u8], work: &mut [i32], mapping: &mut [u8]) -> MatchAnswer {
-    let p = split(input);
-    let a = p.recorded;
-    let b = p.found;
-    let table = &input[0..a];
-    let recorded = &input[a..b];
-    let found = &input[b..];
-    match_trees(table, recorded, found, work, mapping)
-}
-
 // The match in one call, over fresh work numbers; the mapping buffer is cleared after it.
-pub fn match_cleared(input: &[u8], work: &mut [i32], mapping: &mut [u8]) -> MatchAnswer {
+pub fn match_cleared(
+    table: &[u8],
+    recorded: &[u8],
+    found: &[u8],
+    work: &mut [i32],
+    mapping: &mut [u8],
+) -> MatchAnswer {
     clear_numbers(work);
-    let answer = match_plant(input, work, mapping);
+    let answer = match_trees(table, recorded, found, work, mapping);
     clear_bytes(mapping);
     answer
 }
@@ -85,11 +42,18 @@ fn has_solved(answer: AdvanceAnswer) -> bool {
 }
 
 // An advance with the budget and one with 0; the latter must solve nothing.
-fn advance_twice(job: JobRecord, input: &[u8], budget: u32, work: &mut [i32]) -> Slice {
-    let one = advance_plant(job, input, budget, work);
+fn advance_twice(
+    job: JobRecord,
+    table: &[u8],
+    recorded: &[u8],
+    found: &[u8],
+    budget: u32,
+    work: &mut [i32],
+) -> Slice {
+    let one = advance_core(job, table, recorded, found, budget, work);
     let between = one.job;
     let first = one.answer;
-    let none = advance_plant(between, input, 0, work);
+    let none = advance_core(between, table, recorded, found, 0, work);
     let after = none.job;
     let second = none.answer;
     let more = has_solved(first);
@@ -101,11 +65,18 @@ fn advance_twice(job: JobRecord, input: &[u8], budget: u32, work: &mut [i32]) ->
 }
 
 // Slices until one solves nothing. No job has more than 12,160 subproblems.
-fn run_slices(job: JobRecord, input: &[u8], budget: u32, work: &mut [i32]) -> Slices {
+fn run_slices(
+    job: JobRecord,
+    table: &[u8],
+    recorded: &[u8],
+    found: &[u8],
+    budget: u32,
+    work: &mut [i32],
+) -> Slices {
     let mut j = job;
     let mut advances: u64 = 0;
     while advances < 12161 {
-        let s = advance_twice(j, input, budget, work);
+        let s = advance_twice(j, table, recorded, found, budget, work);
         let next = s.job;
         j = next;
         if !s.solved {
@@ -117,8 +88,15 @@ fn run_slices(job: JobRecord, input: &[u8], budget: u32, work: &mut [i32]) -> Sl
 }
 
 // A job over fresh work numbers, up to its finish.
-pub fn run_job(job: JobRecord, input: &[u8], budget: u32, work: &mut [i32]) -> Slices {
+pub fn run_job(
+    job: JobRecord,
+    table: &[u8],
+    recorded: &[u8],
+    found: &[u8],
+    budget: u32,
+    work: &mut [i32],
+) -> Slices {
     clear_numbers(work);
-    let begun = start_plant(job, input, work);
-    run_slices(begun.job, input, budget, work)
+    let begun = start_core(job, table, recorded, found, work);
+    run_slices(begun.job, table, recorded, found, budget, work)
 }

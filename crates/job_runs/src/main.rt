@@ -14,33 +14,31 @@
 //! The calls are `start_core`, `advance_core` and `finish`: functions that are lent the record by `&mut` have no callers in covered code.
 //! The expected output follows from paper 01's rules. A printed mapping is the only one that can be read out of the work numbers.
 mod calls;
-mod memory;
-mod numbers;
-mod show;
 
-use crate::calls::advance_plant;
-use crate::calls::finish_plant;
 use crate::calls::match_cleared;
 use crate::calls::run_job;
-use crate::calls::start_plant;
-use crate::memory::clear_bytes;
-use crate::memory::clear_numbers;
-use crate::memory::copy;
-use crate::memory::lesser;
-use crate::memory::put;
-use crate::numbers::second_of;
-use crate::numbers::word_at;
-use crate::show::print_advanced;
-use crate::show::print_found;
-use crate::show::print_job;
-use crate::show::print_number;
-use crate::show::print_numbers;
-use crate::show::print_record;
-use crate::show::print_started;
-use crate::show::print_step;
-use crate::show::print_text;
 use case_lines::read_line;
 use formats::bytes::byte_or_zero;
+use formats::split::split;
+use job_lines::memory::clear_bytes;
+use job_lines::memory::clear_numbers;
+use job_lines::memory::copy;
+use job_lines::memory::lesser;
+use job_lines::memory::put;
+use job_lines::numbers::second_of;
+use job_lines::numbers::word_at;
+use job_lines::show::print_advanced;
+use job_lines::show::print_found;
+use job_lines::show::print_job;
+use job_lines::show::print_number;
+use job_lines::show::print_numbers;
+use job_lines::show::print_record;
+use job_lines::show::print_started;
+use job_lines::show::print_step;
+use job_lines::show::print_text;
+use jobs::advance_core;
+use jobs::finish;
+use jobs::start_core;
 use model::JobRecord;
 ghost use Prim.Native.Nat.{_<_};
 ghost use lib.ListN.{length};
@@ -68,23 +66,25 @@ fn call(
     word: u8,
     job: JobRecord,
     budget: u32,
-    input: &[u8],
+    table: &[u8],
+    recorded: &[u8],
+    found: &[u8],
     work: &mut [i32],
     mapping: &mut [u8],
 ) -> JobRecord {
     if word == b's' {
-        let out = start_plant(job, input, work);
+        let out = start_core(job, table, recorded, found, work);
         let answer = out.answer;
         print_started(answer);
         return out.job;
     }
     if word == b'a' {
-        let out = advance_plant(job, input, budget, work);
+        let out = advance_core(job, table, recorded, found, budget, work);
         let answer = out.answer;
         print_advanced(answer);
         return out.job;
     }
-    print_found(finish_plant(job, input, work, mapping));
+    print_found(finish(job, table, recorded, found, work, mapping));
     job
 }
 
@@ -101,11 +101,16 @@ fn call_lent(
     let lent = lesser(st.lent, work.len());
     let room = lesser(st.room, mapping.len());
     let input = &plant[0..len];
+    let p = split(input);
+    let a = p.recorded;
+    let b = p.found;
     call(
         word,
         st.job,
         budget,
-        input,
+        &input[0..a],
+        &input[a..b],
+        &input[b..],
         &mut work[0..lent],
         &mut mapping[0..room],
     )
@@ -144,12 +149,18 @@ fn job_step(
 ) -> State {
     let len = lesser(st.len, plant.len());
     let input = &plant[0..len];
-    let whole = match_cleared(input, kept, mapping);
-    let run = run_job(st.job, input, budget, work);
+    let p = split(input);
+    let a = p.recorded;
+    let b = p.found;
+    let table = &input[0..a];
+    let recorded = &input[a..b];
+    let found = &input[b..];
+    let whole = match_cleared(table, recorded, found, kept, mapping);
+    let run = run_job(st.job, table, recorded, found, budget, work);
     let job = run.job;
-    let answer = finish_plant(job, input, work, mapping);
+    let answer = finish(job, table, recorded, found, work, mapping);
     clear_bytes(mapping);
-    print_job(answer, whole, run, work, kept);
+    print_job(answer, whole, job, run.advances, work, kept);
     State {
         len: st.len,
         lent: st.lent,

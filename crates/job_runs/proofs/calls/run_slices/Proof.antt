@@ -7,10 +7,10 @@ use Rattle.job_runs.proofs.calls.run_slices.Statement.{statement}
 use Rattle.job_runs.proofs.calls.run_slices.Tie as tie
 
 abbrev Inv-loop : tie.InvT-loop
-Inv-loop input budget work₀ j₀ advances₀ work j advances = (advances ≤ 12161) × (length work ≡ length work₀)
+Inv-loop table recorded found budget work₀ j₀ advances₀ work j advances = (advances ≤ 12161) × (length work ≡ length work₀)
 
 abbrev μ-loop : tie.MeasureT-loop
-μ-loop input budget work₀ j₀ advances₀ work j advances = 12161 - advances
+μ-loop table recorded found budget work₀ j₀ advances₀ work j advances = 12161 - advances
 
 loop-holds : tie.Need-loop-holds Inv-loop μ-loop
 loop-holds c = search needs

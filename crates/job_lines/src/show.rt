@@ -1,5 +1,4 @@
 //! What is printed of a step.
-use crate::calls::Slices;
 use crate::memory::Changes;
 use crate::memory::compare;
 use crate::memory::is_written;
@@ -148,13 +147,20 @@ pub fn print_step(before: JobRecord, after: JobRecord, work: &[i32], kept: &[i32
     print_mapping(mapping, after.n as usize);
 }
 
-// A job against the match in one call, whose work numbers are in `kept`.
-pub fn print_job(answer: MatchAnswer, whole: MatchAnswer, run: Slices, work: &[i32], kept: &[i32]) {
+// A job of so many advances against the match in one call, whose work numbers are in `kept`.
+pub fn print_job(
+    answer: MatchAnswer,
+    whole: MatchAnswer,
+    job: JobRecord,
+    advances: u64,
+    work: &[i32],
+    kept: &[i32],
+) {
     print_found(answer);
     print_text(b", in one call ");
     print_found(whole);
     print_compared(compare(work, kept));
-    print_number(b"; advances ", run.advances);
-    print_record(run.job);
+    print_number(b"; advances ", advances);
+    print_record(job);
     print_text(b"\n");
 }

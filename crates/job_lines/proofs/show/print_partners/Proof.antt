@@ -1,8 +1,8 @@
 -- `print_partners` keeps to the buffer. Assumes nothing.
 use Prim.Native.Nat.{_-_, _≤_}
 use borrow.Author.Needs.{needs}
-use Rattle.job_runs.proofs.show.print_partners.Statement.{statement}
-use Rattle.job_runs.proofs.show.print_partners.Tie as tie
+use Rattle.job_lines.proofs.show.print_partners.Statement.{statement}
+use Rattle.job_lines.proofs.show.print_partners.Tie as tie
 
 abbrev Inv-loop : tie.InvT-loop
 Inv-loop mapping n end u₀ u = u ≤ end

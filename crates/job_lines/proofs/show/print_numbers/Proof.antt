@@ -1,8 +1,8 @@
 -- `print_numbers` keeps to the slice. Assumes nothing.
 use Prim.Native.Nat.{_-_, _≤_}
 use borrow.Author.Needs.{needs}
-use Rattle.job_runs.proofs.show.print_numbers.Statement.{statement}
-use Rattle.job_runs.proofs.show.print_numbers.Tie as tie
+use Rattle.job_lines.proofs.show.print_numbers.Statement.{statement}
+use Rattle.job_lines.proofs.show.print_numbers.Tie as tie
 
 abbrev Inv-loop : tie.InvT-loop
 Inv-loop work n end i₀ t5 t6 i = i ≤ end

@@ -3,8 +3,8 @@ use mathlib.Core.Path.{_≡_}
 use Prim.Native.Nat.{_-_}
 use lib.ListN.{length}
 use borrow.Author.Needs.{needs}
-use Rattle.job_runs.proofs.memory.clear_bytes.Statement.{statement}
-use Rattle.job_runs.proofs.memory.clear_bytes.Tie as tie
+use Rattle.job_lines.proofs.memory.clear_bytes.Statement.{statement}
+use Rattle.job_lines.proofs.memory.clear_bytes.Tie as tie
 
 abbrev Inv-loop : tie.InvT-loop
 Inv-loop mapping₀ i₀ mapping i = length mapping ≡ length mapping₀

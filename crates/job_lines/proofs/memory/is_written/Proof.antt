@@ -2,8 +2,8 @@
 use Prim.Native.Nat.{_-_, _≤_}
 use lib.ListN.{length}
 use borrow.Author.Needs.{needs}
-use Rattle.job_runs.proofs.memory.is_written.Statement.{statement}
-use Rattle.job_runs.proofs.memory.is_written.Tie as tie
+use Rattle.job_lines.proofs.memory.is_written.Statement.{statement}
+use Rattle.job_lines.proofs.memory.is_written.Tie as tie
 
 abbrev Inv-loop : tie.InvT-loop
 Inv-loop mapping from i₀ i = from ≤ i

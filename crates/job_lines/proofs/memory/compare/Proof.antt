@@ -1,8 +1,8 @@
 -- `compare` keeps to both slices, and counts each place once. Assumes nothing.
 use Prim.Native.Nat.{_-_, _≤_}
 use borrow.Author.Needs.{needs}
-use Rattle.job_runs.proofs.memory.compare.Statement.{statement}
-use Rattle.job_runs.proofs.memory.compare.Tie as tie
+use Rattle.job_lines.proofs.memory.compare.Statement.{statement}
+use Rattle.job_lines.proofs.memory.compare.Tie as tie
 
 abbrev Inv-loop : tie.InvT-loop
 Inv-loop work kept n count₀ first₀ i₀ count first i = (i ≤ n) × (count ≤ i)
