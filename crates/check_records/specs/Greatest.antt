@@ -7,17 +7,15 @@ use native.Mathlib.Omega.{arith}
 use native.Mathlib.Numerals.{add-one}
 use lib.IntN.{ℤ, pos, negsuc}
 use lib.Signed.{leZ}
-use borrow.Author.Tests.{eq-eqb}
 use Rattle.foundations.specs.Int.{up, ints, canon}
 use Rattle.foundations.specs.Lists.{below}
-use Rattle.foundations.specs.Members.{place}
 use Rattle.model.specs.Certificate.{valueIn, valueOf}
 use Rattle.model.specs.Mapping.{num}
-use Rattle.model.specs.Order.{position, width, offset, slot, index}
+use Rattle.model.specs.Order.{width, offset, index}
 use Rattle.model.specs.Tree.{count}
 use Rattle.model.specs.Values.{greatest, vertices, largest}
 use Rattle.model.specs.Weights.{Weight, none, some, weighed, maxW, isForbidden}
-use Rattle.trees.specs.Positions.{position-low}
+use Rattle.trees.specs.Positions.{index-own, position-low}
 use Rattle.plan.specs.Plan.{placeIn, offsetIn}
 use Rattle.plan.specs.Pairs.{upW}
 use Rattle.records.specs.Places.{Laid, inputs-recorded}
@@ -113,11 +111,6 @@ most-largest r f z w e =
     zero-up = unfold upW in omega arith
 
 -- ---- where the values stand
-
--- the number of (u, v, v)
-index-own : (r f : List ℕ) (u v : ℕ) → index r f u v v ≡ position r u * width f + offset f v
-unfolding index slot place
-index-own r f u v = rw (eq-eqb v v refl) (omega arith)
 
 module _ {r f : List ℕ} {plan places : List (List ℕ)} (L : Laid r f plan places) where
   pub place-low : (u : ℕ) → u < count r → placeIn plan u < count r

@@ -10,7 +10,7 @@ use Rattle.model.specs.Table.{vertexLabels, edgeLabels, tableItems, tableItem}
 use Rattle.model.specs.Tree.{treeItems, treeItem}
 use Rattle.model.specs.Calls.{inputItems, inputItem}
 use Rattle.trees.specs.Items.{Numbered, end, more, numbered-append, first-then, first-here}
-use Rattle.trees.specs.Accepted.{Passed, tree-numbered, tree-passed}
+use Rattle.trees.specs.Accepted.{Passed, Sound, tree-numbered, tree-passed}
 use Rattle.formats.specs.Table.{TablePassed, table-passed}
 
 table-numbered : (table : List ℕ) → Numbered (tableItems table)
@@ -52,3 +52,6 @@ input-accepted table r f h =
     let a : tableItem table ≡ 0 = ⊎-elim (λ e. e) (λ n. sym (input-table table r f n) ∙ h) (same? (tableItem table) 0) in
     let b : treeItem 3 r (vertexLabels table) (edgeLabels table) ≡ 0 = ⊎-elim (λ e. e) (λ n. sym (input-recorded table r f a n) ∙ h) (same? (treeItem 3 r (vertexLabels table) (edgeLabels table)) 0) in
     record { weights = table-passed table a; recorded = tree-passed 3 r _ _ (omega arith) b; found = tree-passed 8 f _ _ (omega arith) (sym (input-found table r f a b) ∙ h) }
+
+pub input-sound : (table r f : List ℕ) → inputItem table r f ≡ 0 → Sound r × Sound f
+input-sound table r f h = let A = input-accepted table r f h in (record { K = _; L = _; passed = A .recorded }, record { K = _; L = _; passed = A .found })

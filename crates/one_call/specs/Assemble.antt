@@ -3,27 +3,15 @@ use mathlib.Core.Path.{_≡_}
 use mathlib.Core.List.{List}
 use Prim.Native.Nat.{ℕ}
 use lib.IntN.{ℤ}
-use Rattle.model.specs.Calls.{inputItem}
 use Rattle.model.specs.Values.{fill}
 use Rattle.subtrees.specs.Filling.{length-fill}
-use Rattle.trees.specs.Accepted.{Sound}
-use Rattle.formats.specs.Inputs.{Accepted, input-accepted}
 use Rattle.plan.specs.Plan.{Ready, Lent}
+use Rattle.plan.specs.Numbers.{ready-recorded, ready-sound}
 use Rattle.one_call.specs.Top.{AllAt}
 
-module _ (table r f : List ℕ) (passes : inputItem table r f ≡ 0) where
-  A : Accepted table r f
-  A = input-accepted table r f passes
-
-  pub recorded-sound : Sound r
-  recorded-sound = record { K = _; L = _; passed = A .recorded }
-
-  pub found-sound : Sound f
-  found-sound = record { K = _; L = _; passed = A .found }
-
-  -- what the search for the largest value takes
-  pub all-at : {plan : List (List ℕ)} {work : List ℤ} → Ready table r f plan → Lent r f work → AllAt r f work plan
-  all-at R l = record { recorded = recorded-sound; found = found-sound; planned = R .planned; enough = l .enough }
+-- what the search for the largest value takes
+pub all-at : {table r f : List ℕ} {plan : List (List ℕ)} {work : List ℤ} → Ready table r f plan → Lent r f work → AllAt r f work plan
+all-at R l = record { recorded = ready-recorded R; found = ready-sound R; planned = R .planned; enough = l .enough }
 
 -- filling keeps the work numbers' count
 pub lent-after : (table r f : List ℕ) (work work′ : List ℤ) (k c : ℕ) → Lent r f work → work′ ≡ fill table r f work k c → Lent r f work′

@@ -9,26 +9,20 @@ use native.Mathlib.Nat.{mul-le-mul}
 use lib.ListN.{getD, length}
 use lib.Dec.{T}
 use lib.IntN.{ℤ, pos, negsuc}
-use borrow.Author.Tests.{eq-eqb}
 use Rattle.foundations.specs.Tests.{same?}
 use Rattle.foundations.specs.Int.{up, int, canon}
-use Rattle.foundations.specs.Members.{mem, mem-here, mem-below, below-mem, place}
+use Rattle.foundations.specs.Members.{mem, mem-here, mem-below, below-mem}
 use Rattle.model.specs.Weights.{Weight, none, some, weighed, isForbidden, _⊑_}
 use Rattle.model.specs.Limits.{vertexLimit, widthLimit}
 use Rattle.model.specs.Tree.{count}
 use Rattle.model.specs.Graph.{neighbours}
-use Rattle.model.specs.Order.{position, width, offset, slot, index, subproblems}
+use Rattle.model.specs.Order.{position, width, offset, index, subproblems}
 use Rattle.trees.specs.Accepted.{Sound}
-use Rattle.trees.specs.Positions.{position-low, offset-up, offset-all, index-low}
+use Rattle.trees.specs.Positions.{index-own, position-low, offset-up, offset-all, index-low}
 use Rattle.model.specs.Mapping.{num}
 use Rattle.model.specs.Values.{greatest, vertices, largest, recalled}
 use Rattle.plan.specs.Plan.{placeIn, offsetIn, Planned}
 use Rattle.subtrees.specs.WeightLaws.{⊑-trans, ⊑-antisym, greatest-default, greatest-at, greatest-is}
-
--- the number of (u, v, v)
-pub index-own : (r f : List ℕ) (u v : ℕ) → index r f u v v ≡ position r u * width f + offset f v
-unfolding index slot place
-index-own r f u v = rw (eq-eqb v v refl) (omega arith)
 
 -- a work number as a weight, and the greater of 0 and it
 weighed-most : (z : ℤ) → weighed z ⊑ some (pos (up z))

@@ -18,7 +18,7 @@ use Rattle.model.specs.Graph.{neighbours}
 use Rattle.model.specs.Order.{choices, offset, vertexAt, width, subproblems, uAt, vAt, sAt}
 use Rattle.trees.specs.Accepted.{Sound}
 use Rattle.trees.specs.Positions.{offset-up, offset-all}
-use Rattle.formats.specs.Inputs.{Accepted, input-accepted}
+use Rattle.formats.specs.Inputs.{Accepted, input-accepted, input-sound}
 use Rattle.plan.specs.Plan.{degreeIn, offsetIn, neighbourIn, orderIn, Ready}
 
 -- ---- which choice s is for v
@@ -80,10 +80,10 @@ module _ {table r f : List ℕ} {plan : List (List ℕ)} (N : Ready table r f pl
   ready-accepted = input-accepted table r f (N .passes)
 
   pub ready-sound : Sound f
-  ready-sound = record { K = _; L = _; passed = ready-accepted .found }
+  ready-sound = input-sound table r f (N .passes) .1
 
   pub ready-recorded : Sound r
-  ready-recorded = record { K = _; L = _; passed = ready-accepted .recorded }
+  ready-recorded = input-sound table r f (N .passes) .0
 
   pub width-some : 1 ≤ width f
   width-some = unfold width in (let a : 1 ≤ count f = ready-accepted .found .ends .some in omega arith)

@@ -10,12 +10,12 @@ use native.Mathlib.Nat.{div-add-mod', mod-lt, div-lt-iff-lt-mul}
 use lib.Arith.{digits-div, digits-mod, digits-lt}
 use lib.Dec.{T, eqb, leb}
 use lib.ListN.{length, getD}
-use borrow.Author.Tests.{leb-true, leb-false}
+use borrow.Author.Tests.{eq-eqb, leb-true, leb-false}
 use Rattle.foundations.specs.Tests.{same}
 use Rattle.foundations.specs.Sums.{sum, sum-ext, sum-zero}
 use Rattle.foundations.specs.Counting.{sum-count, cnt-pair}
 use Rattle.foundations.specs.Lists.{cat-ext}
-use Rattle.foundations.specs.Members.{mem, Distinct, getD-mem, mem-occ, distinct-occ, occ, place-low, place-at, place-one, AllLow, length-once}
+use Rattle.foundations.specs.Members.{mem, Distinct, getD-mem, mem-occ, distinct-occ, occ, place, place-low, place-at, place-one, AllLow, length-once}
 use Rattle.model.specs.Edges.{component}
 use Rattle.model.specs.Limits.{vertexLimit}
 use Rattle.model.specs.Tree.{count, endA, endB, acyclic, degree}
@@ -33,6 +33,11 @@ pub record Sub (r f : List ℕ) (k u v s : ℕ) : Type 0 where
   pub u-low : u < count r
   pub v-low : v < count f
   pub s-in : T (mem s (choices f v))
+
+-- the number of (u, v, v)
+pub index-own : (r f : List ℕ) (u v : ℕ) → index r f u v v ≡ position r u * width f + offset f v
+unfolding index slot place
+index-own r f u v = rw (eq-eqb v v refl) (omega arith)
 
 -- each edge has two ends
 degree-sum : (s : List ℕ) (n k : ℕ) → Low (endA s n) (endB s n) n k → AllFresh (endA s n) (endB s n) k → sum n (λ v. degree s n v k) ≡ 2 * k

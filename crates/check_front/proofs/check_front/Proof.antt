@@ -5,7 +5,7 @@ use native.Mathlib.Omega.{arith}
 use borrow.Author.Needs.{needs}
 use Rattle.model.specs.Calls.{inputItem}
 use Rattle.model.specs.Limits.{vertexLimit}
-use Rattle.formats.specs.Inputs.{Accepted, input-accepted}
+use Rattle.formats.specs.Inputs.{input-sound}
 use Rattle.trees.specs.Accepted.{Sound, whole}
 use Rattle.check_front.specs.Steps.{checked-input, checked-later}
 use Rattle.check_front.proofs.check_front.Statement.{statement}
@@ -19,11 +19,8 @@ module _ (c : tie.Else1) where
   zero : inputItem (start .args .table .now) (start .args .recorded .now) (start .args .found .now) ≡ 0
   zero = let z : c .before .input-item .result ≡ 0 = search needs in sym (c .before .input-item .ensures) ∙ z
 
-  accepted : Accepted (start .args .table .now) (start .args .recorded .now) (start .args .found .now)
-  accepted = input-accepted _ _ _ zero
-
   sound : Sound (start .args .recorded .now) × Sound (start .args .found .now)
-  sound = (record { K = _; L = _; passed = accepted .recorded }, record { K = _; L = _; passed = accepted .found })
+  sound = input-sound _ _ _ zero
 
 input-item-requires : tie.Need-input-item-requires
 input-item-requires c κs = search needs
@@ -43,7 +40,7 @@ front-item-requires c κs =
     (record { passes = zero (m .before .before); planned = m .make .ensures }, start (m .before .before) .pre)
 
 vertex-count-requires : tie.Need-vertex-count-requires
-vertex-count-requires c κs = whole (accepted (c .before .before .before .before) .recorded .ends)
+vertex-count-requires c κs = whole (sound (c .before .before .before .before) .0 .passed .ends)
 
 -- where the records begin
 module _ (c : tie.After-vertex-count) where
@@ -51,7 +48,7 @@ module _ (c : tie.After-vertex-count) where
   last = c .before .before .before .before .before
 
   few : c .vertex-count .result ≤ vertexLimit
-  few = rw (c .vertex-count .ensures) (accepted last .recorded .ends .few)
+  few = rw (c .vertex-count .ensures) (sound last .0 .passed .ends .few)
 
   here : start last .args .at ≡ 0
   here = start last .pre

@@ -1,6 +1,6 @@
 -- `check_records` keeps a refusal, or tests the items 23 and 24. Assumes nothing.
 use mathlib.Core.Path.{_≡_, _∙_, refl}
-use Rattle.formats.specs.Inputs.{Accepted, input-accepted}
+use Rattle.formats.specs.Inputs.{input-sound}
 use Rattle.check_front.specs.Front.{FrontPassed}
 use Rattle.check_records.specs.Items.{front-long, records-last}
 use borrow.Author.Needs.{needs}
@@ -15,14 +15,11 @@ module _ (c : tie.Else1) where
   passed : FrontPassed (start .args .table .now) (start .args .recorded .now) (start .args .found .now) (start .args .certificate .now) (start .args .at)
   passed = let z : start .args .refusal ≡ 0 = search needs in start .pre .passed z
 
-  accepted : Accepted (start .args .table .now) (start .args .recorded .now) (start .args .found .now)
-  accepted = input-accepted _ _ _ (passed .input)
-
 returns : tie.Need-returns
 returns c = c .before .before .before .before .before .pre .refused (c .if1 .taken)
 
 make-requires : tie.Need-make-requires
-make-requires c κs = let a = accepted (c .before) in (refl, (record { K = _; L = _; passed = a .recorded }, record { K = _; L = _; passed = a .found }))
+make-requires c κs = (refl, input-sound _ _ _ (passed (c .before) .input))
 
 records-item-requires : tie.Need-records-item-requires
 records-item-requires c κs =

@@ -3,7 +3,7 @@ use mathlib.Core.Path.{_≡_, sym, _∙_}
 use native.Mathlib.Omega.{arith}
 use borrow.Author.Needs.{needs}
 use Rattle.model.specs.Calls.{inputItem}
-use Rattle.formats.specs.Inputs.{input-accepted}
+use Rattle.formats.specs.Inputs.{input-sound}
 use Rattle.job_items.specs.Items.{start-input, start-work, start-none}
 use Rattle.job_items.proofs.start_item.Statement.{statement}
 use Rattle.job_items.proofs.start_item.Tie as tie
@@ -24,9 +24,7 @@ returns c =
     e ∙ sym (start-input (a .table .now) (a .recorded .now) (a .found .now) (a .work .now) (λ z. c .if1 .taken (e ∙ z)))
 
 subproblem-count-requires : tie.Need-subproblem-count-requires
-subproblem-count-requires c κs =
-    let A = input-accepted _ _ _ (passes c) in
-    (record { K = _; L = _; passed = A .recorded }, record { K = _; L = _; passed = A .found })
+subproblem-count-requires c κs = input-sound _ _ _ (passes c)
 
 returns-2 : tie.Need-returns-2
 returns-2 c =

@@ -1,7 +1,7 @@
 -- `advance_core` refuses by the first of the items 1 to 15 that applies, or makes the plan and goes on. Assumes nothing.
+use Rattle.formats.specs.Inputs.{input-sound}
 use mathlib.Core.Path.{_≡_, sym, _∙_, refl}
 use Rattle.model.specs.Calls.{inputItem}
-use Rattle.one_call.specs.Assemble.{recorded-sound, found-sound}
 use Rattle.job_items.specs.Items.{earlyItem, early-passed, advance-early}
 use Rattle.jobs.specs.Outcomes.{advance-refused-as}
 use borrow.Author.Needs.{needs}
@@ -25,7 +25,7 @@ returns c =
     advance-refused-as (a .job) (a .table .now) (a .recorded .now) (a .found .now) (a .work .now) (a .budget) _ (e ∙ sym (advance-early (a .table .now) (a .recorded .now) (a .found .now) (a .work .now) (a .job) (λ z. c .if1 .taken (e ∙ z)))) (c .if1 .taken)
 
 make-requires : tie.Need-make-requires
-make-requires c κs = (refl, (recorded-sound _ _ _ (passing (c .before)), found-sound _ _ _ (passing (c .before))))
+make-requires c κs = (refl, input-sound _ _ _ (passing (c .before)))
 
 advance-ready-requires : tie.Need-advance-ready-requires
 advance-ready-requires c κs =

@@ -1,9 +1,9 @@
 -- `finish` refuses by the first of the items 1 to 15 that applies, or makes the plan and goes on. Assumes nothing.
+use Rattle.formats.specs.Inputs.{input-sound}
 use mathlib.Core.Path.{_≡_, refl, sym, ap, _∙_}
 use Rattle.model.specs.declared.MatchAnswer.the-variants.{Refused}
 use Rattle.model.specs.Calls.{inputItem}
 use Rattle.one_call.specs.Answers.{refused-number, refused-weight}
-use Rattle.one_call.specs.Assemble.{recorded-sound, found-sound}
 use Rattle.job_items.specs.Items.{earlyItem, early-passed, finish-early}
 use borrow.Author.Needs.{needs}
 use Rattle.jobs.proofs.finish.Statement.{statement}
@@ -27,7 +27,7 @@ returns c =
     record { refused = λ n. record { given = ap Refused q; number = refused-number (ap Refused q); weighs = refused-weight (ap Refused q); work-kept = refl; mapping-kept = refl }; finished = λ z. absurd (c .if1 .taken (q ∙ z)) }
 
 make-requires : tie.Need-make-requires
-make-requires c κs = (refl, (recorded-sound _ _ _ (passing (c .before)), found-sound _ _ _ (passing (c .before))))
+make-requires c κs = (refl, input-sound _ _ _ (passing (c .before)))
 
 finish-ready-requires : tie.Need-finish-ready-requires
 finish-ready-requires c κs =

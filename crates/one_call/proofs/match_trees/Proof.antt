@@ -1,4 +1,5 @@
 -- `match_trees` refuses by the first item that applies and changes nothing, or makes the plan, solves and reads out. Assumes nothing.
+use Rattle.formats.specs.Inputs.{input-sound}
 use mathlib.Core.Path.{_≡_, refl, sym, ap, _∙_}
 use Prim.Native.Nat.{_≤_}
 use lib.ListN.{length}
@@ -12,7 +13,6 @@ use Rattle.model.specs.Order.{subproblems}
 use Rattle.model.specs.Calls.{inputItem, matchItem}
 use Rattle.one_call.specs.Answers.{refused-number, refused-weight, found-number, found-weight}
 use Rattle.one_call.specs.Items.{match-passed}
-use Rattle.one_call.specs.Assemble.{recorded-sound, found-sound}
 use borrow.Author.Needs.{needs}
 use Rattle.one_call.proofs.match_trees.Statement.{statement}
 use Rattle.one_call.proofs.match_trees.Tie as tie
@@ -34,7 +34,7 @@ returns c =
     record { refused = λ n. record { given = ap Refused e; number = refused-number (ap Refused e); weighs = refused-weight (ap Refused e); work-kept = refl; mapping-kept = refl }; matched = λ z. absurd (c .if1 .taken (e ∙ z)) }
 
 make-requires : tie.Need-make-requires
-make-requires c κs = (refl, (recorded-sound _ _ _ (passed (c .before) .0), found-sound _ _ _ (passed (c .before) .0)))
+make-requires c κs = (refl, input-sound _ _ _ (passed (c .before) .0))
 
 solve-and-read-requires : tie.Need-solve-and-read-requires
 solve-and-read-requires c κs =

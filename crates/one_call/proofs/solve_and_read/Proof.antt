@@ -26,7 +26,7 @@ fill-requires c κs =
 largest-requires : tie.Need-largest-requires
 largest-requires c κs =
     let s = c .before .before .before .before .before .before .before .before .before in
-    all-at _ _ _ (s .pre .0 .passes) (s .pre .0) (lent-after _ _ _ _ _ _ _ (s .pre .1 .0) (c .before .before .fill .ensures))
+    all-at (s .pre .0) (lent-after _ _ _ _ _ _ _ (s .pre .1 .0) (c .before .before .fill .ensures))
 
 vertex-count-requires : tie.Need-vertex-count-requires
 vertex-count-requires c κs =

@@ -1,4 +1,5 @@
 -- `write_certificate` refuses by the first item that applies and changes nothing, or makes the plan, solves and writes. Assumes nothing.
+use Rattle.formats.specs.Inputs.{input-sound}
 use mathlib.Core.Path.{_≡_, refl, sym, ap, _∙_}
 use Prim.Native.Nat.{_≤_}
 use lib.ListN.{length}
@@ -12,7 +13,6 @@ use Rattle.plan.specs.Plan.{Ready}
 use Rattle.plan.specs.Numbers.{ready-recorded}
 use Rattle.records.specs.Places.{ready-inputs, inputs-few, inputs-length, places-end}
 use Rattle.job_items.specs.Items.{start-passed}
-use Rattle.one_call.specs.Assemble.{recorded-sound, found-sound}
 use Rattle.write.specs.Theorems.{refused-number, refused-length, written-number, written-length}
 use Rattle.write.specs.Items.{write-start, write-room, write-none}
 use native.Mathlib.Omega.{arith}
@@ -48,7 +48,7 @@ returns c =
     }
 
 make-requires : tie.Need-make-requires
-make-requires c κs = (refl, (recorded-sound _ _ _ (passed (c .before) .0), found-sound _ _ _ (passed (c .before) .0)))
+make-requires c κs = (refl, input-sound _ _ _ (passed (c .before) .0))
 
 places-of-requires : tie.Need-places-of-requires
 places-of-requires c κs = (refl, ready-inputs (ready (c .before .before)))

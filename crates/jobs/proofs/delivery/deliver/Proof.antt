@@ -17,7 +17,7 @@ use Rattle.jobs.proofs.delivery.deliver.Tie as tie
 largest-requires : tie.Need-largest-requires
 largest-requires c κs =
     let s = c .before .before .before .before in
-    all-at _ _ _ (s .pre .0 .passes) (s .pre .0) (s .pre .1 .0)
+    all-at (s .pre .0) (s .pre .1 .0)
 
 vertex-count-requires : tie.Need-vertex-count-requires
 vertex-count-requires c κs = whole (ready-accepted (c .before .before .before .before .before .before .before .before .pre .0) .recorded .ends)
