@@ -24,9 +24,9 @@ use Rattle.model.specs.Certificate.{certificateLength, weightIn, mappingIn, val
 use Rattle.model.specs.Writing.{writeItem, writeRefusal, lengthOf, WriteCall}
 use Rattle.jobs.specs.Theorems.{start-refusal, advance-refusal, advance-count, finish-refusal}
 use Rattle.jobs.specs.Outcomes.{advance-refused}
-use Rattle.call_numbers.specs.declared.job_numbers.JobMemory.{JobMemory}
-use Rattle.call_numbers.specs.Memory.{recordOf, memoryAfter, startMemory, advanceMemory}
-use Rattle.call_numbers.specs.MemoryLaws.{where-none, where-item}
+use Rattle.answer_numbers.specs.declared.job_numbers.JobMemory.{JobMemory}
+use Rattle.answer_numbers.specs.Memory.{recordOf, memoryAfter, startMemory, advanceMemory}
+use Rattle.answer_numbers.specs.ByItem.{where-none, where-item}
 use Rattle.call_numbers.specs.Exported.{matchWeight, Matches, Starts, advanceSolves, Advances, finishWeight, Finishes, writeLength, Writes}
 
 -- a number that is the item in both cases

@@ -18,8 +18,8 @@ use Rattle.model.specs.Match.{MatchLeaves}
 use Rattle.model.specs.Jobs.{startItem, advanceItem, finishItem, advanceWork}
 use Rattle.model.specs.Certificate.{certificateLength, weightIn, mappingIn, valueIn, checkOf}
 use Rattle.model.specs.Writing.{writeItem}
-use Rattle.call_numbers.specs.declared.job_numbers.JobMemory.{JobMemory}
-use Rattle.call_numbers.specs.Memory.{recordOf, startMemory, advanceMemory}
+use Rattle.answer_numbers.specs.declared.job_numbers.JobMemory.{JobMemory}
+use Rattle.answer_numbers.specs.Memory.{recordOf, startMemory, advanceMemory}
 
 -- ---- the match in one call: the answer's weight
 

@@ -1,5 +1,4 @@
 -- What the exported functions promise.
-pub mod Memory
 pub mod Exported
 pub mod MemoryLaws
 pub mod Answers

@@ -14,9 +14,9 @@ use Rattle.model.specs.Values.{answer}
 use Rattle.model.specs.Jobs.{advanceItem, finishItem}
 use Rattle.model.specs.Certificate.{certificateLength}
 use Rattle.model.specs.Writing.{writeItem}
-use Rattle.call_numbers.specs.declared.job_numbers.JobMemory.{JobMemory}
-use Rattle.call_numbers.specs.Memory.{recordOf}
-use Rattle.call_numbers.specs.MemoryLaws.{where-none, where-item}
+use Rattle.answer_numbers.specs.declared.job_numbers.JobMemory.{JobMemory}
+use Rattle.answer_numbers.specs.Memory.{recordOf}
+use Rattle.answer_numbers.specs.ByItem.{where-none, where-item}
 use Rattle.call_numbers.specs.Exported.{matchWeight, Matches, advanceSolves, Advances, finishWeight, Finishes, writeLength, Writes}
 
 module _ (table r f : List ℕ) (work : List ℤ) (mapping : List ℕ) (work′ : List ℤ) (mapping′ : List ℕ) (refusal : ℕ) (w : ℤ) (e : Matches table r f work mapping work′ mapping′ refusal w) where

@@ -12,8 +12,8 @@ use Rattle.model.specs.Values.{values, answer}
 use Rattle.model.specs.Jobs.{startItem, advanceOf, advanceWork}
 use Rattle.jobs.specs.Slices.{Sliced, begins, goes}
 use Rattle.jobs.specs.Theorems.{sliced-running, lent-slice, lent-job}
-use Rattle.call_numbers.specs.declared.job_numbers.JobMemory.{JobMemory}
-use Rattle.call_numbers.specs.Memory.{recordOf}
+use Rattle.answer_numbers.specs.declared.job_numbers.JobMemory.{JobMemory}
+use Rattle.answer_numbers.specs.Memory.{recordOf}
 use Rattle.call_numbers.specs.MemoryLaws.{start-memory-record, advance-memory-record}
 use Rattle.call_numbers.specs.Exported.{Starts, Advances, Finishes}
 use Rattle.call_numbers.specs.Numbers.{advance-solves}

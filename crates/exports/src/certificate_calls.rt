@@ -1,5 +1,5 @@
 //! The C interface of certificates: writing one, and checking one.
-use call_numbers::certificate_numbers::WriteResult;
+use answer_numbers::certificate_numbers::WriteResult;
 use call_numbers::certificate_numbers::write_numbers;
 ghost use mathlib.Core.Path.{_≡_};
 ghost use Rattle.model.specs.Certificate.{checkOf};

@@ -1,17 +1,17 @@
 //! The C interface of jobs: the job's record is lent by `&mut` to start and to advance, thin functions over a covered core that takes it by value, and
 //! by `&` to finish. Any bytes may stand in that record.
-use call_numbers::MatchResult;
-use call_numbers::job_numbers::AdvanceResult;
-use call_numbers::job_numbers::JobMemory;
+use answer_numbers::MatchResult;
+use answer_numbers::job_numbers::AdvanceResult;
+use answer_numbers::job_numbers::JobMemory;
+use answer_numbers::job_numbers::memory_of;
 use call_numbers::job_numbers::advance_numbers;
 use call_numbers::job_numbers::finish_result;
-use call_numbers::job_numbers::memory_of;
 use call_numbers::job_numbers::start_numbers;
 use model::JobRecord;
 ghost use mathlib.Core.Path.{_≡_};
 ghost use Rattle.model.specs.Jobs.{freshRecord};
 ghost use Rattle.call_numbers.specs.Exported.{Starts, Advances, Finishes};
-ghost use Rattle.call_numbers.specs.Memory.{recordOf, memoryOf};
+ghost use Rattle.answer_numbers.specs.Memory.{recordOf, memoryOf};
 
 // Entry point.
 // A record of no job.

@@ -2,7 +2,7 @@
 pub mod certificate_calls;
 pub mod job_calls;
 
-use call_numbers::MatchResult;
+use answer_numbers::MatchResult;
 use call_numbers::match_numbers;
 ghost use Rattle.call_numbers.specs.Exported.{Matches};
 

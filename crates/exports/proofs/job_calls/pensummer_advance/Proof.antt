@@ -41,13 +41,13 @@ use denote.Triple.Spec.{Meets, tripleOf}
 use denote.Triple.Table.{entered, cited}
 use denote.Triple.Walked.{says, Stays, stay-ref, stay-dropped, gave-slice, walkOf, AllGo, goes-dropped, goes-gave-slice, goes-ref, Walks, ends-at, walked, walk-meets}
 use denote.Exit.{yes}
-use Rattle.call_numbers.specs.declared.job_numbers.JobMemory.{JobMemory}
+use Rattle.answer_numbers.specs.declared.job_numbers.JobMemory.{JobMemory}
 use Rattle.call_numbers.specs.Exported.{Advances}
-use Rattle.call_numbers.proofs.job_numbers.JobMemory as T
-use Rattle.call_numbers.proofs.job_numbers.JobMemory.Laws as T′
+use Rattle.answer_numbers.proofs.job_numbers.JobMemory as T
+use Rattle.answer_numbers.proofs.job_numbers.JobMemory.Laws as T′
 use Rattle.call_numbers.specs.declared.job_numbers.AdvanceNumbers.{AdvanceNumbers}
-use Rattle.call_numbers.proofs.job_numbers.AdvanceResult as S
-use Rattle.call_numbers.proofs.job_numbers.AdvanceResult.Laws as S′
+use Rattle.answer_numbers.proofs.job_numbers.AdvanceResult as S
+use Rattle.answer_numbers.proofs.job_numbers.AdvanceResult.Laws as S′
 use Rattle.call_numbers.proofs.job_numbers.AdvanceNumbers as O
 use Rattle.call_numbers.proofs.job_numbers.AdvanceNumbers.Laws as O′
 use Rattle.call_numbers.proofs.job_numbers.advance_numbers as core

@@ -37,14 +37,14 @@ use denote.Triple.Spec.{Meets, tripleOf}
 use denote.Triple.Table.{entered, cited}
 use denote.Triple.Walked.{says, Stays, stay-dropped, gave-slice, walkOf, AllGo, goes-dropped, goes-gave-slice, Walks, ends-at, walked, walk-meets}
 use denote.Exit.{yes}
-use Rattle.call_numbers.specs.declared.job_numbers.JobMemory.{JobMemory}
-use Rattle.call_numbers.proofs.job_numbers.JobMemory as T
-use Rattle.call_numbers.proofs.job_numbers.JobMemory.Laws as T′
-use Rattle.call_numbers.specs.declared.MatchResult.{MatchResult}
+use Rattle.answer_numbers.specs.declared.job_numbers.JobMemory.{JobMemory}
+use Rattle.answer_numbers.proofs.job_numbers.JobMemory as T
+use Rattle.answer_numbers.proofs.job_numbers.JobMemory.Laws as T′
+use Rattle.answer_numbers.specs.declared.MatchResult.{MatchResult}
 use Rattle.call_numbers.specs.Exported.{Finishes}
-use Rattle.call_numbers.specs.Memory.{recordOf}
-use Rattle.call_numbers.proofs.MatchResult as S
-use Rattle.call_numbers.proofs.MatchResult.Laws as S′
+use Rattle.answer_numbers.specs.Memory.{recordOf}
+use Rattle.answer_numbers.proofs.MatchResult as S
+use Rattle.answer_numbers.proofs.MatchResult.Laws as S′
 use Rattle.call_numbers.proofs.job_numbers.finish_result as core
 use Rattle.call_numbers.proofs.job_numbers.finish_result.Symbol as core-def
 use Rattle.call_numbers.proofs.job_numbers.finish_result.Symbol.{name as #call-numbers·job-numbers·finish-result}

@@ -1,7 +1,7 @@
 -- `pensummer_fresh` gives the memory of a fresh record. Assumes nothing.
 use mathlib.Core.Path.{ap, _∙_}
 use borrow.Author.Needs.{needs}
-use Rattle.call_numbers.specs.Memory.{memoryOf}
+use Rattle.answer_numbers.specs.Memory.{memoryOf}
 use Rattle.exports.proofs.job_calls.pensummer_fresh.Statement.{statement}
 use Rattle.exports.proofs.job_calls.pensummer_fresh.Tie as tie
 

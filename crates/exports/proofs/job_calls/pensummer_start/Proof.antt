@@ -41,10 +41,10 @@ use denote.Triple.Spec.{Meets, tripleOf}
 use denote.Triple.Table.{entered, cited}
 use denote.Triple.Walked.{says, Stays, stay-ref, stay-dropped, walkOf, AllGo, goes-dropped, goes-ref, Walks, ends-at, walked, walk-meets}
 use denote.Exit.{yes}
-use Rattle.call_numbers.specs.declared.job_numbers.JobMemory.{JobMemory}
+use Rattle.answer_numbers.specs.declared.job_numbers.JobMemory.{JobMemory}
 use Rattle.call_numbers.specs.Exported.{Starts}
-use Rattle.call_numbers.proofs.job_numbers.JobMemory as T
-use Rattle.call_numbers.proofs.job_numbers.JobMemory.Laws as T′
+use Rattle.answer_numbers.proofs.job_numbers.JobMemory as T
+use Rattle.answer_numbers.proofs.job_numbers.JobMemory.Laws as T′
 use Rattle.call_numbers.specs.declared.job_numbers.StartNumbers.{StartNumbers}
 use Rattle.call_numbers.proofs.job_numbers.StartNumbers as O
 use Rattle.call_numbers.proofs.job_numbers.StartNumbers.Laws as O′

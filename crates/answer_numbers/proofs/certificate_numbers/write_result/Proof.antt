@@ -2,8 +2,8 @@
 use mathlib.Core.Path.{sym, ap}
 use borrow.Author.Needs.{needs}
 use Rattle.model.specs.Writing.{writeRefusal, lengthOf}
-use Rattle.call_numbers.proofs.certificate_numbers.write_result.Statement.{statement}
-use Rattle.call_numbers.proofs.certificate_numbers.write_result.Tie as tie
+use Rattle.answer_numbers.proofs.certificate_numbers.write_result.Statement.{statement}
+use Rattle.answer_numbers.proofs.certificate_numbers.write_result.Tie as tie
 
 enum-known-a : tie.Need-enum-known-a
 enum-known-a c = search needs

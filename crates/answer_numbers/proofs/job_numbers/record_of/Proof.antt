@@ -1,8 +1,8 @@
 -- `record_of` meets its contract. Assumes nothing.
 use borrow.Author.Needs.{needs}
-use Rattle.call_numbers.specs.Memory.{recordOf}
-use Rattle.call_numbers.proofs.job_numbers.record_of.Statement.{statement}
-use Rattle.call_numbers.proofs.job_numbers.record_of.Tie as tie
+use Rattle.answer_numbers.specs.Memory.{recordOf}
+use Rattle.answer_numbers.proofs.job_numbers.record_of.Statement.{statement}
+use Rattle.answer_numbers.proofs.job_numbers.record_of.Tie as tie
 
 returns : tie.Need-returns
 unfolding recordOf

@@ -1,8 +1,8 @@
 -- `memory_of` meets its contract. Assumes nothing.
 use borrow.Author.Needs.{needs}
-use Rattle.call_numbers.specs.Memory.{memoryOf}
-use Rattle.call_numbers.proofs.job_numbers.memory_of.Statement.{statement}
-use Rattle.call_numbers.proofs.job_numbers.memory_of.Tie as tie
+use Rattle.answer_numbers.specs.Memory.{memoryOf}
+use Rattle.answer_numbers.proofs.job_numbers.memory_of.Statement.{statement}
+use Rattle.answer_numbers.proofs.job_numbers.memory_of.Tie as tie
 
 idle-number-requires : tie.Need-idle-number-requires
 idle-number-requires c κs = search needs

@@ -7,7 +7,7 @@ use lib.Dec.{eqb}
 use lib.IntN.{ℤ}
 use Rattle.model.specs.declared.JobRecord.{JobRecord}
 use Rattle.model.specs.Jobs.{startItem, advanceItem, startOf, advanceOf}
-use Rattle.call_numbers.specs.declared.job_numbers.JobMemory.{JobMemory}
+use Rattle.answer_numbers.specs.declared.job_numbers.JobMemory.{JobMemory}
 
 -- 0 says that a job was started, any other number that none was
 unfoldable pub recordOf : JobMemory → JobRecord

@@ -2,8 +2,8 @@
 use mathlib.Core.Path.{sym, ap}
 use borrow.Author.Needs.{needs}
 use Rattle.model.specs.Jobs.{startRefusal}
-use Rattle.call_numbers.proofs.job_numbers.start_number.Statement.{statement}
-use Rattle.call_numbers.proofs.job_numbers.start_number.Tie as tie
+use Rattle.answer_numbers.proofs.job_numbers.start_number.Statement.{statement}
+use Rattle.answer_numbers.proofs.job_numbers.start_number.Tie as tie
 
 enum-told : tie.Need-enum-told
 enum-told c = search needs

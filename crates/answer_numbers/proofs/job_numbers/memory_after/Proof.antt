@@ -1,9 +1,9 @@
 -- `memory_after` gives the old memory where the call was refused. Assumes nothing.
 use mathlib.Core.Path.{_≡_, sym, _∙_}
 use borrow.Author.Needs.{needs}
-use Rattle.call_numbers.specs.MemoryLaws.{after-refused, after-accepted}
-use Rattle.call_numbers.proofs.job_numbers.memory_after.Statement.{statement}
-use Rattle.call_numbers.proofs.job_numbers.memory_after.Tie as tie
+use Rattle.answer_numbers.specs.ByItem.{after-refused, after-accepted}
+use Rattle.answer_numbers.proofs.job_numbers.memory_after.Statement.{statement}
+use Rattle.answer_numbers.proofs.job_numbers.memory_after.Tie as tie
 
 returns : tie.Need-returns
 returns c = sym (after-refused _ _ _ (c .if1 .taken))

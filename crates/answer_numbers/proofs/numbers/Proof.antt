@@ -3,8 +3,8 @@ use mathlib.Core.Path.{sym, ap, _∙_}
 use borrow.Author.Needs.{needs}
 use Rattle.foundations.specs.Machine.{Same}
 use Rattle.model.specs.Match.{refusalOf, weightOf}
-use Rattle.call_numbers.proofs.numbers.Statement.{statement}
-use Rattle.call_numbers.proofs.numbers.Tie as tie
+use Rattle.answer_numbers.proofs.numbers.Statement.{statement}
+use Rattle.answer_numbers.proofs.numbers.Tie as tie
 
 enum-known-a : tie.Need-enum-known-a
 enum-known-a c = search needs
