@@ -4,6 +4,7 @@
 use case_lines::read_line;
 use console::print_match;
 use libc::STDOUT_FILENO;
+use model::Limits;
 ghost use Prim.Native.Nat.{_<_, _≤_};
 ghost use lib.ListN.{length};
 ghost use Rattle.case_lines.specs.Line.{Onward};
@@ -45,7 +46,7 @@ fn main() {
     let mut input = io::large_buffer();
     let n = io::read_full(0, &mut input);
     let mut bytes = [0u8; 8192];
-    let mut work = [0i32; 12160];
-    let mut mapping = [255u8; 64];
+    let mut work = [0i32; Limits::SUBPROBLEMS];
+    let mut mapping = [Limits::NONE; Limits::ROWS];
     run(&input[..n], &mut bytes, &mut work, &mut mapping);
 }

@@ -7,6 +7,9 @@ use crate::shape::shape_ok;
 use crate::weighing::mapping_item;
 use formats::inputs::input_item;
 use formats::tree::vertex_count;
+use model::Limits;
+use plan::Blocks;
+use plan::Plan;
 use planning::make;
 ghost use mathlib.Core.Path.{_≡_};
 ghost use Rattle.plan.specs.Plan.{Ready};
@@ -18,7 +21,7 @@ fn front_item(
     table: &[u8],
     recorded: &[u8],
     found: &[u8],
-    plan: &[[u8; 8]; 512],
+    plan: &Plan,
     certificate: &[u8],
     at: usize,
 ) -> u32
@@ -58,7 +61,7 @@ pub fn check_front(
             next: at,
         };
     }
-    let mut plan = [[0u8; 8]; 512];
+    let mut plan = [[0u8; Limits::PLACES]; Blocks::ALL];
     make(&mut plan, recorded, found);
     let k = front_item(table, recorded, found, &plan, certificate, at);
     let n = vertex_count(recorded);

@@ -1,8 +1,11 @@
 //! Item 20: the certificate's length, its marks, n and m. The marks are the fixed strings C1 01, C1 02 and C1 03.
 use formats::marks::is_mark;
 use formats::tree::vertex_count;
+use plan::Plan;
 use plan::degree;
 use plan::wide;
+use records::Places;
+use records::Rows;
 use records::begin;
 use records::places_of;
 use records::record_at;
@@ -65,8 +68,8 @@ fn is_record(z: &[u8], at: usize) -> bool
 fn choices_marked(
     recorded: &[u8],
     found: &[u8],
-    plan: &[[u8; 8]; 512],
-    places: &[[u32; 2]; 65],
+    plan: &Plan,
+    places: &Places,
     z: &[u8],
     i: usize,
     v: u8,
@@ -92,8 +95,8 @@ fn choices_marked(
 fn row_marked(
     recorded: &[u8],
     found: &[u8],
-    plan: &[[u8; 8]; 512],
-    places: &[[u32; 2]; 65],
+    plan: &Plan,
+    places: &Places,
     z: &[u8],
     i: usize,
 ) -> bool
@@ -114,13 +117,7 @@ fn row_marked(
 }
 
 // Every record has its mark.
-fn records_marked(
-    recorded: &[u8],
-    found: &[u8],
-    plan: &[[u8; 8]; 512],
-    places: &[[u32; 2]; 65],
-    z: &[u8],
-) -> bool
+fn records_marked(recorded: &[u8], found: &[u8], plan: &Plan, places: &Places, z: &[u8]) -> bool
     requires { ⌜ Laid (now recorded) (now found) (now plan) (now places) ⌝ }
     requires { ⌜ length (now z) ≡ certificateLength (now recorded) (now found) ⌝ }
     ensures { λ r. ⌜ r ≡ every (λ k. isMark (now (z .entry)) (recordAt (now (recorded .entry)) (now (found .entry)) k) recordMark) (subproblems (now (recorded .entry)) (now (found .entry))) ⌝ }
@@ -138,14 +135,14 @@ fn records_marked(
 
 // The length, the marks, n and m of the certificate that begins at `at` are right. The length is tested first, so that no read goes past the end: it is
 // where the row after the last would begin.
-pub fn shape_ok(recorded: &[u8], found: &[u8], plan: &[[u8; 8]; 512], z: &[u8], at: usize) -> bool
+pub fn shape_ok(recorded: &[u8], found: &[u8], plan: &Plan, z: &[u8], at: usize) -> bool
     requires { ⌜ Inputs (now recorded) (now found) (now plan) ⌝ }
     requires { ⌜ at ≡ 0 ⌝ }
     ensures { λ r. ⌜ r ≡ shapeOk (now (recorded .entry)) (now (found .entry)) (now (z .entry)) ⌝ }
 {
     let n = vertex_count(recorded);
     let m = vertex_count(found);
-    let mut places = [[0u32; 2]; 65];
+    let mut places = [[0u32; 2]; Rows::ALL];
     places_of(&mut places, recorded, found, plan);
     let long = begin(&places, n);
     if z.len() != long {

@@ -3,6 +3,7 @@ use formats::tree::vertex_count;
 use integers::int32_at;
 use mappings::mapping_ok;
 use mappings::weigh::weigh;
+use plan::Plan;
 ghost use Prim.Native.Nat.{_+_, _*_, _≤_};
 ghost use mathlib.Core.Path.{_≡_};
 ghost use lib.ListN.{length};
@@ -38,7 +39,7 @@ pub fn mapping_item(
     table: &[u8],
     recorded: &[u8],
     found: &[u8],
-    plan: &[[u8; 8]; 512],
+    plan: &Plan,
     z: &[u8],
     at: usize,
 ) -> u32

@@ -1,5 +1,6 @@
 //! The gains of a pair's branches, from the values that the certificate itself records for their subproblems.
 use integers::int32_at;
+use plan::Plan;
 use plan::behind;
 use plan::child_count;
 use plan::child_edge;
@@ -10,6 +11,7 @@ use plan::neighbour_edge;
 use plan::offset as offset_of;
 use plan::weights::edge_pair;
 use plan::weights::gain_of;
+use records::Places;
 use records::begin;
 use records::record_in;
 use records::size;
@@ -29,8 +31,8 @@ ghost use Rattle.check_records.specs.Gains.{Given, Sits};
 pub fn value_in(
     recorded: &[u8],
     found: &[u8],
-    plan: &[[u8; 8]; 512],
-    places: &[[u32; 2]; 65],
+    plan: &Plan,
+    places: &Places,
     certificate: &[u8],
     row: usize,
     first: usize,
@@ -55,8 +57,8 @@ fn gain_row(
     table: &[u8],
     recorded: &[u8],
     found: &[u8],
-    plan: &[[u8; 8]; 512],
-    places: &[[u32; 2]; 65],
+    plan: &Plan,
+    places: &Places,
     certificate: &[u8],
     u: u8,
     v: u8,
@@ -101,8 +103,8 @@ pub fn gains(
     table: &[u8],
     recorded: &[u8],
     found: &[u8],
-    plan: &[[u8; 8]; 512],
-    places: &[[u32; 2]; 65],
+    plan: &Plan,
+    places: &Places,
     certificate: &[u8],
     u: u8,
     v: u8,

@@ -6,9 +6,13 @@ pub mod top;
 use crate::record::records_ok;
 use crate::top::greatest;
 use integers::int32_at;
+use model::Limits;
+use plan::Blocks;
+use plan::Plan;
 use planning::make;
 use record_rules::numbers::is_sum;
 use record_rules::numbers::wide;
+use records::Rows;
 use records::places_of;
 ghost use mathlib.Core.Path.{_≡_};
 ghost use lib.ListN.{length};
@@ -18,18 +22,12 @@ ghost use Rattle.check_front.specs.Front.{FrontChecked};
 ghost use Rattle.check_records.specs.Items.{recordsItem};
 
 // The first of the items 23 and 24 that applies, 0 for none.
-fn records_item(
-    table: &[u8],
-    recorded: &[u8],
-    found: &[u8],
-    plan: &[[u8; 8]; 512],
-    certificate: &[u8],
-) -> u32
+fn records_item(table: &[u8], recorded: &[u8], found: &[u8], plan: &Plan, certificate: &[u8]) -> u32
     requires { ⌜ Ready (now table) (now recorded) (now found) (now plan) ⌝ }
     requires { ⌜ length (now certificate) ≡ certificateLength (now recorded) (now found) ⌝ }
     ensures { λ r. ⌜ r ≡ recordsItem (now (table .entry)) (now (recorded .entry)) (now (found .entry)) (now (certificate .entry)) ⌝ }
 {
-    let mut places = [[0u32; 2]; 65];
+    let mut places = [[0u32; 2]; Rows::ALL];
     places_of(&mut places, recorded, found, plan);
     let ok = records_ok(table, recorded, found, plan, &places, certificate);
     if !ok {
@@ -58,7 +56,7 @@ pub fn check_records(
     if refusal != 0 {
         return refusal;
     }
-    let mut plan = [[0u8; 8]; 512];
+    let mut plan = [[0u8; Limits::PLACES]; Blocks::ALL];
     make(&mut plan, recorded, found);
     records_item(table, recorded, found, &plan, certificate)
 }

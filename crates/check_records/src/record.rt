@@ -1,11 +1,13 @@
 //! Item 23: the records of a pair of vertices, those of a recorded vertex, and all of them.
 use crate::gains::gains;
 use formats::tree::vertex_count;
+use plan::Plan;
 use plan::child_count;
 use plan::degree;
 use plan::in_order;
 use plan::weights::vertex_pair;
 use record_rules::record_ok;
+use records::Places;
 use records::others_of;
 use records::record_at;
 ghost use Prim.Native.Nat.{_+_, _<_};
@@ -26,8 +28,8 @@ fn choices_ok(
     table: &[u8],
     recorded: &[u8],
     found: &[u8],
-    plan: &[[u8; 8]; 512],
-    places: &[[u32; 2]; 65],
+    plan: &Plan,
+    places: &Places,
     certificate: &[u8],
     i: usize,
     v: u8,
@@ -57,8 +59,8 @@ fn pair_ok(
     table: &[u8],
     recorded: &[u8],
     found: &[u8],
-    plan: &[[u8; 8]; 512],
-    places: &[[u32; 2]; 65],
+    plan: &Plan,
+    places: &Places,
     certificate: &[u8],
     i: usize,
     v: u8,
@@ -100,8 +102,8 @@ fn row_ok(
     table: &[u8],
     recorded: &[u8],
     found: &[u8],
-    plan: &[[u8; 8]; 512],
-    places: &[[u32; 2]; 65],
+    plan: &Plan,
+    places: &Places,
     certificate: &[u8],
     i: usize,
 ) -> bool
@@ -125,8 +127,8 @@ pub fn records_ok(
     table: &[u8],
     recorded: &[u8],
     found: &[u8],
-    plan: &[[u8; 8]; 512],
-    places: &[[u32; 2]; 65],
+    plan: &Plan,
+    places: &Places,
     certificate: &[u8],
 ) -> bool
     requires { ⌜ Given (now table) (now recorded) (now found) (now plan) (now places) (now certificate) ⌝ }

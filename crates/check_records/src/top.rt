@@ -2,8 +2,10 @@
 use crate::gains::value_in;
 use formats::tree::vertex_count;
 use integers::above_zero;
+use plan::Plan;
 use plan::offset;
 use plan::place;
+use records::Places;
 use records::begin;
 use records::size;
 ghost use Prim.Native.Nat.{_<_, max, _^_};
@@ -24,8 +26,8 @@ fn greater(a: u32, b: u32) -> u32
 fn top_of_row(
     recorded: &[u8],
     found: &[u8],
-    plan: &[[u8; 8]; 512],
-    places: &[[u32; 2]; 65],
+    plan: &Plan,
+    places: &Places,
     certificate: &[u8],
     u: u8,
 ) -> u32
@@ -65,8 +67,8 @@ fn top_of_row(
 pub fn greatest(
     recorded: &[u8],
     found: &[u8],
-    plan: &[[u8; 8]; 512],
-    places: &[[u32; 2]; 65],
+    plan: &Plan,
+    places: &Places,
     certificate: &[u8],
 ) -> u32
     requires { ⌜ Laid (now recorded) (now found) (now plan) (now places) ⌝ }

@@ -1,5 +1,6 @@
 //! The duals of subproblems (the paper's bounds), as the writer of a certificate needs them: the gains of a pair of vertices once, and from them the
 //! duals for each choice of s.
+use plan::Plan;
 use solver::subproblem::gains;
 use solver::subproblem::leave_out;
 ghost use mathlib.Core.Path.{_≡_};
@@ -30,7 +31,7 @@ pub fn pair_gains(
     table: &[u8],
     recorded: &[u8],
     found: &[u8],
-    plan: &[[u8; 8]; 512],
+    plan: &Plan,
     work: &[i32],
     u: u8,
     v: u8,

@@ -1,7 +1,7 @@
 //! Where the table, the recorded tree and the found tree stand in the match program's input.
 use crate::bytes::byte_or_zero;
 use crate::table::rows_length;
-ghost use Prim.Native.Nat.{min};
+use integers::lesser;
 ghost use mathlib.Core.Path.{_≡_};
 ghost use Rattle.model.specs.Table.{tableLength};
 ghost use Rattle.model.specs.Input.{treeLength};
@@ -11,12 +11,6 @@ ghost use Rattle.formats.specs.Split.{SplitAt};
 pub struct Parts {
     pub recorded: usize,
     pub found: usize,
-}
-
-fn lesser(a: usize, b: usize) -> usize
-    ensures { λ r. ⌜ r ≡ min a b ⌝ }
-{
-    if a <= b { a } else { b }
 }
 
 fn table_length(input: &[u8]) -> usize

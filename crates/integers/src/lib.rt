@@ -1,7 +1,7 @@
-//! Leaf functions on 32-bit integers: bytes to a weight and back, the tests of a weight, and the arithmetic of one subproblem.
+//! Leaf functions on 32-bit integers: bytes to a weight and back, the tests of a weight, and the arithmetic of one subproblem. The lesser of two lengths.
 ghost use mathlib.Core.Path.{_≡_};
 ghost use mathlib.Core.Bool.{true};
-ghost use Prim.Native.Nat.{_+_, _≤_, _<_, _^_};
+ghost use Prim.Native.Nat.{_+_, _≤_, _<_, _^_, min};
 ghost use Rattle.foundations.specs.Int.{up};
 ghost use Rattle.model.specs.Bytes.{word, signed32, bits32, int32, int32At, putWord, putInt32};
 ghost use Rattle.model.specs.Weights.{isForbidden, inRange, weightOk};
@@ -125,4 +125,11 @@ pub fn stored_value(weight: i32, total: u64) -> i32
     } else {
         s as i32
     }
+}
+
+// The lesser of two lengths.
+pub fn lesser(a: usize, b: usize) -> usize
+    ensures { λ r. ⌜ r ≡ min a b ⌝ }
+{
+    if a <= b { a } else { b }
 }

@@ -1,5 +1,6 @@
 //! Item 16: the work numbers before the position, row by row, in a row by found vertex.
-use plan::counts::lesser;
+use integers::lesser;
+use plan::Plan;
 use plan::counts::width_of;
 use plan::degree;
 use plan::in_order;
@@ -69,7 +70,7 @@ fn row_ok(
     table: &[u8],
     recorded: &[u8],
     found: &[u8],
-    plan: &[[u8; 8]; 512],
+    plan: &Plan,
     work: &[i32],
     base: usize,
     u: u8,
@@ -98,7 +99,7 @@ pub fn work_ok(
     table: &[u8],
     recorded: &[u8],
     found: &[u8],
-    plan: &[[u8; 8]; 512],
+    plan: &Plan,
     work: &[i32],
     position: usize,
 ) -> bool

@@ -152,7 +152,7 @@ pub fn print_job(
     answer: MatchAnswer,
     whole: MatchAnswer,
     job: JobRecord,
-    advances: u64,
+    advances: usize,
     work: &[i32],
     kept: &[i32],
 ) {
@@ -160,7 +160,7 @@ pub fn print_job(
     print_text(b", in one call ");
     print_found(whole);
     print_compared(compare(work, kept));
-    print_number(b"; advances ", advances);
+    print_number(b"; advances ", advances as u64);
     print_record(job);
     print_text(b"\n");
 }

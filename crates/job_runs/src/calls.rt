@@ -5,13 +5,14 @@ use jobs::advance_core;
 use jobs::start_core;
 use model::AdvanceAnswer;
 use model::JobRecord;
+use model::Limits;
 use model::MatchAnswer;
 use one_call::match_trees;
 
 // A job after slices, and how many advances solved something.
 pub struct Slices {
     pub job: JobRecord,
-    pub advances: u64,
+    pub advances: usize,
 }
 
 // The record after an advance, and whether it solved something.
@@ -64,7 +65,7 @@ fn advance_twice(
     }
 }
 
-// Slices until one solves nothing. No job has more than 12,160 subproblems.
+// Slices until one solves nothing: no job has more than SUBPROBLEMS.
 fn run_slices(
     job: JobRecord,
     table: &[u8],
@@ -74,8 +75,8 @@ fn run_slices(
     work: &mut [i32],
 ) -> Slices {
     let mut j = job;
-    let mut advances: u64 = 0;
-    while advances < 12161 {
+    let mut advances: usize = 0;
+    while advances <= Limits::SUBPROBLEMS {
         let s = advance_twice(j, table, recorded, found, budget, work);
         let next = s.job;
         j = next;

@@ -40,6 +40,7 @@ use jobs::advance_core;
 use jobs::finish;
 use jobs::start_core;
 use model::JobRecord;
+use model::Limits;
 ghost use Prim.Native.Nat.{_<_};
 ghost use lib.ListN.{length};
 
@@ -310,9 +311,9 @@ fn main() {
     let n = io::read_full(0, &mut input);
     let mut bytes = [0u8; 8192];
     let mut plant = [0u8; 8192];
-    let mut work = [0i32; 12160];
-    let mut kept = [0i32; 12160];
-    let mut mapping = [255u8; 64];
+    let mut work = [0i32; Limits::SUBPROBLEMS];
+    let mut kept = [0i32; Limits::SUBPROBLEMS];
+    let mut mapping = [Limits::NONE; Limits::ROWS];
     run(
         &input[..n],
         &mut bytes,

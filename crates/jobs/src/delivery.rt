@@ -2,6 +2,7 @@
 use formats::tree::vertex_count;
 use mappings::weigh::weigh;
 use one_call::top::largest;
+use plan::Plan;
 use readout::cycle::clear;
 use readout::cycle::read_out;
 ghost use Prim.Native.Nat.{_≤_};
@@ -16,7 +17,7 @@ pub fn deliver(
     table: &[u8],
     recorded: &[u8],
     found: &[u8],
-    plan: &[[u8; 8]; 512],
+    plan: &Plan,
     work: &[i32],
     mapping: &mut [u8],
 ) -> i32

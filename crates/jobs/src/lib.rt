@@ -15,9 +15,12 @@ use job_items::work::work_ok;
 use model::AdvanceAnswer;
 use model::AdvanceOutcome;
 use model::JobRecord;
+use model::Limits;
 use model::MatchAnswer;
 use model::StartAnswer;
 use model::StartOutcome;
+use plan::Blocks;
+use plan::Plan;
 use planning::make;
 use solver::fill::fill;
 ghost use mathlib.Core.Path.{_≡_};
@@ -55,7 +58,7 @@ fn advance_ready(
     table: &[u8],
     recorded: &[u8],
     found: &[u8],
-    plan: &[[u8; 8]; 512],
+    plan: &Plan,
     budget: u32,
     work: &mut [i32],
 ) -> AdvanceOutcome
@@ -108,7 +111,7 @@ pub fn advance_core(
             answer: AdvanceAnswer::Refused(item),
         };
     }
-    let mut plan = [[0u8; 8]; 512];
+    let mut plan = [[0u8; Limits::PLACES]; Blocks::ALL];
     make(&mut plan, recorded, found);
     advance_ready(job, table, recorded, found, &plan, budget, work)
 }
@@ -119,7 +122,7 @@ fn late_item(
     table: &[u8],
     recorded: &[u8],
     found: &[u8],
-    plan: &[[u8; 8]; 512],
+    plan: &Plan,
     work: &[i32],
     mapping: &[u8],
 ) -> u8
@@ -147,7 +150,7 @@ fn finish_ready(
     table: &[u8],
     recorded: &[u8],
     found: &[u8],
-    plan: &[[u8; 8]; 512],
+    plan: &Plan,
     work: &[i32],
     mapping: &mut [u8],
 ) -> MatchAnswer
@@ -180,7 +183,7 @@ pub fn finish(
     if item != 0 {
         return MatchAnswer::Refused(item);
     }
-    let mut plan = [[0u8; 8]; 512];
+    let mut plan = [[0u8; Limits::PLACES]; Blocks::ALL];
     make(&mut plan, recorded, found);
     finish_ready(job, table, recorded, found, &plan, work, mapping)
 }

@@ -1,7 +1,7 @@
 //! The numbers of a slice: how many subproblems an advance solves, and the record after it.
 use formats::bytes::byte_or_zero;
+use integers::lesser;
 use model::JobRecord;
-use plan::counts::lesser;
 use plan::counts::subproblem_count;
 ghost use Prim.Native.Nat.{_+_, _-_, _≤_, min};
 ghost use mathlib.Core.Path.{_≡_};

@@ -1,6 +1,7 @@
 //! The edge pairs of a mapping: partners of a vertex and its parent are joined, and no pair of edges is forbidden.
 use crate::vertices::is_mapped;
 use formats::tree::vertex_count;
+use plan::Plan;
 use plan::neighbour_edge;
 use plan::parent;
 use plan::parent_edge;
@@ -23,7 +24,7 @@ fn edge_between(
     table: &[u8],
     recorded: &[u8],
     found: &[u8],
-    plan: &[[u8; 8]; 512],
+    plan: &Plan,
     u: u8,
     a: u8,
     b: u8,
@@ -51,7 +52,7 @@ fn edge_ok(
     table: &[u8],
     recorded: &[u8],
     found: &[u8],
-    plan: &[[u8; 8]; 512],
+    plan: &Plan,
     mapping: &[u8; 64],
     u: u8,
 ) -> bool
@@ -82,7 +83,7 @@ pub fn edges_ok(
     table: &[u8],
     recorded: &[u8],
     found: &[u8],
-    plan: &[[u8; 8]; 512],
+    plan: &Plan,
     mapping: &[u8; 64],
 ) -> bool
     requires { ⌜ Ready (now table) (now recorded) (now found) (now plan) ⌝ }

@@ -8,6 +8,7 @@ use crate::edges::edges_ok;
 use crate::vertices::is_mapped;
 use crate::vertices::vertices_ok;
 use formats::tree::vertex_count;
+use plan::Plan;
 use plan::parent;
 ghost use Prim.Native.Nat.{_+_, _<_, _≤_};
 ghost use mathlib.Core.Path.{_≡_};
@@ -21,7 +22,7 @@ ghost use Rattle.plan.specs.Plan.{Ready};
 ghost use Rattle.mappings.specs.Tested.{Above};
 
 // u is mapped and no parent of it is.
-fn is_top(recorded: &[u8], plan: &[[u8; 8]; 512], mapping: &[u8; 64], u: u8) -> bool
+fn is_top(recorded: &[u8], plan: &Plan, mapping: &[u8; 64], u: u8) -> bool
     requires { ⌜ Above (now recorded) (now plan) ⌝ }
     requires { ⌜ u < count (now recorded) ⌝ }
     ensures { λ r. ⌜ r ≡ isTop (now (recorded .entry)) (now (mapping .entry)) u ⌝ }
@@ -40,7 +41,7 @@ fn one_more(k: usize, b: bool) -> usize
 }
 
 // How many tops there are.
-fn tops(recorded: &[u8], plan: &[[u8; 8]; 512], mapping: &[u8; 64]) -> usize
+fn tops(recorded: &[u8], plan: &Plan, mapping: &[u8; 64]) -> usize
     requires { ⌜ Above (now recorded) (now plan) ⌝ }
     ensures { λ r. ⌜ r ≡ cnt (isTop (now (recorded .entry)) (now (mapping .entry))) (count (now (recorded .entry))) ⌝ }
 {
@@ -60,7 +61,7 @@ pub fn mapping_ok(
     table: &[u8],
     recorded: &[u8],
     found: &[u8],
-    plan: &[[u8; 8]; 512],
+    plan: &Plan,
     mapping: &[u8; 64],
 ) -> bool
     requires { ⌜ Ready (now table) (now recorded) (now found) (now plan) ⌝ }

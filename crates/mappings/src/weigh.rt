@@ -3,6 +3,7 @@ use formats::tree::edge_label_at;
 use formats::tree::end_a;
 use formats::tree::end_b;
 use formats::tree::vertex_count;
+use plan::Plan;
 use plan::neighbour_edge;
 use plan::slot;
 use plan::weights::edge_pair;
@@ -67,7 +68,7 @@ fn edge_term(
     table: &[u8],
     recorded: &[u8],
     found: &[u8],
-    plan: &[[u8; 8]; 512],
+    plan: &Plan,
     mapping: &[u8],
     j: usize,
 ) -> i32
@@ -92,13 +93,7 @@ fn edge_term(
 }
 
 // The weight of all edge pairs.
-fn sum_edges(
-    table: &[u8],
-    recorded: &[u8],
-    found: &[u8],
-    plan: &[[u8; 8]; 512],
-    mapping: &[u8],
-) -> i32
+fn sum_edges(table: &[u8], recorded: &[u8], found: &[u8], plan: &Plan, mapping: &[u8]) -> i32
     requires { ⌜ Ground (now table) (now recorded) (now found) (now mapping) ⌝ }
     requires { ⌜ Ready (now table) (now recorded) (now found) (now plan) ⌝ }
     ensures { λ r. ⌜ SumTo (count (now (recorded .entry)) - 1) (edgePairs (now (table .entry)) (now (recorded .entry)) (now (found .entry)) (take (count (now (recorded .entry))) (now (mapping .entry)))) r ⌝ }
@@ -115,13 +110,7 @@ fn sum_edges(
 }
 
 // The weight of the mapping in the first bytes of `mapping`.
-pub fn weigh(
-    table: &[u8],
-    recorded: &[u8],
-    found: &[u8],
-    plan: &[[u8; 8]; 512],
-    mapping: &[u8],
-) -> i32
+pub fn weigh(table: &[u8], recorded: &[u8], found: &[u8], plan: &Plan, mapping: &[u8]) -> i32
     requires { ⌜ Ready (now table) (now recorded) (now found) (now plan) ⌝ }
     requires { ⌜ count (now recorded) ≤ length (now mapping) ⌝ }
     requires { ⌜ IsMapping (now table) (now recorded) (now found) (take (count (now recorded)) (now mapping)) ⌝ }

@@ -1,11 +1,12 @@
 //! The match program: reads at most 8,192 bytes of standard input, that is a table, a recorded tree and a found tree, and prints the weight of a
 //! heaviest mapping and each recorded vertex's partner, or `refused` and the number of the item that turns the input down.
 use console::print_match;
+use model::Limits;
 
 fn main() {
     let mut input = [0u8; 8192];
     let n = io::read_full(0, &mut input);
-    let mut work = [0i32; 12160];
-    let mut mapping = [255u8; 64];
+    let mut work = [0i32; Limits::SUBPROBLEMS];
+    let mut mapping = [Limits::NONE; Limits::ROWS];
     print_match(&input[..n], &mut work, &mut mapping);
 }

@@ -3,7 +3,7 @@
 ghost use mathlib.Core.Path.{_≡_};
 ghost use lib.IntN.{pos};
 ghost use Rattle.model.specs.Jobs.{freshRecord, totalLimit};
-ghost use Rattle.model.specs.Limits.{weightLimit, forbidden, ceiling, vertexLabelLimit, edgeLabelLimit, vertexLimit, degreeLimit, noVertex};
+ghost use Rattle.model.specs.Limits.{weightLimit, forbidden, ceiling, vertexLabelLimit, edgeLabelLimit, vertexLimit, degreeLimit, noVertex, subproblemLimit};
 
 // The numbers that the paper fixes. The definitions have the same in specs/Limits.antt (`weights` and `sizes` below).
 pub struct Limits {}
@@ -27,6 +27,8 @@ impl Limits {
     pub const ROWS: usize = Limits::VERTICES as usize;
 
     pub const PLACES: usize = Limits::DEGREE as usize;
+    // The most subproblems, n(3m - 2): work numbers that are enough for any two trees.
+    pub const SUBPROBLEMS: usize = Limits::ROWS * (3 * Limits::ROWS - 2);
     // What stands where there is no vertex: in a free place, and for a vertex without partner.
     pub const NONE: u8 = 255;
 }
@@ -109,4 +111,5 @@ fn sizes()
     ensures { λ _. do ⌜ (← ⟦Limits::VERTICES⟧ .exit) ≡ vertexLimit ⌝ }
     ensures { λ _. do ⌜ (← ⟦Limits::DEGREE⟧ .exit) ≡ degreeLimit ⌝ }
     ensures { λ _. do ⌜ (← ⟦Limits::NONE⟧ .exit) ≡ noVertex ⌝ }
+    ensures { λ _. do ⌜ (← ⟦Limits::SUBPROBLEMS⟧ .exit) ≡ subproblemLimit ⌝ }
 {}

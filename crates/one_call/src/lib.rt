@@ -4,7 +4,10 @@ pub mod top;
 use crate::top::largest;
 use formats::tree::vertex_count;
 use job_items::start_item;
+use model::Limits;
 use model::MatchAnswer;
+use plan::Blocks;
+use plan::Plan;
 use plan::counts::subproblem_count;
 use planning::make;
 use readout::cycle::clear;
@@ -38,7 +41,7 @@ pub fn solve_and_read(
     table: &[u8],
     recorded: &[u8],
     found: &[u8],
-    plan: &[[u8; 8]; 512],
+    plan: &Plan,
     work: &mut [i32],
     mapping: &mut [u8],
 ) -> i32
@@ -77,7 +80,7 @@ pub fn match_trees(
     if item != 0 {
         return MatchAnswer::Refused(item);
     }
-    let mut plan = [[0u8; 8]; 512];
+    let mut plan = [[0u8; Limits::PLACES]; Blocks::ALL];
     make(&mut plan, recorded, found);
     let w = solve_and_read(table, recorded, found, &plan, work, mapping);
     MatchAnswer::Found(w)

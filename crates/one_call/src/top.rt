@@ -1,6 +1,7 @@
 //! The pair of vertices with the largest value: where a heaviest mapping has its top.
 use formats::tree::vertex_count;
 use integers::above_zero;
+use plan::Plan;
 use plan::counts::width_of;
 use plan::offset;
 use plan::place;
@@ -39,7 +40,7 @@ fn base_of(place: usize, width: usize) -> usize
 // The values of recorded vertex u, whose subproblems begin at `base`.
 fn top_of_row(
     work: &[i32],
-    plan: &[[u8; 8]; 512],
+    plan: &Plan,
     recorded: &[u8],
     found: &[u8],
     base: usize,
@@ -63,7 +64,7 @@ fn top_of_row(
 }
 
 // The pair with the largest value over the work numbers as they are.
-pub fn largest(work: &[i32], plan: &[[u8; 8]; 512], recorded: &[u8], found: &[u8]) -> Top
+pub fn largest(work: &[i32], plan: &Plan, recorded: &[u8], found: &[u8]) -> Top
     requires { ⌜ AllAt (now recorded) (now found) (now work) (now plan) ⌝ }
     ensures { λ r. ⌜ TopOf (now (recorded .entry)) (now (found .entry)) (now (work .entry)) (count (now (recorded .entry))) 0 (r .weight) (r .u) (r .v) ⌝ }
 {

@@ -1,6 +1,6 @@
 -- The plan of two trees: what a call looks up in them, as 512 rows of eight numbers: eight blocks of 64 rows, a row for each vertex, the first four
--- of the recorded tree and the others of the found tree. Only this file, `Rows` and `src/` know where a number stands; all else goes by the laws of
--- `Planned`. Assumes nothing.
+-- of the recorded tree and the others of the found tree. Only this file, `src/` and `planning` know where a number stands; all else goes by the laws
+-- of `Planned`. Assumes nothing.
 use mathlib.Core.Path.{_≡_}
 use mathlib.Core.Logic.{_≢_}
 use mathlib.Core.List.{List, []}

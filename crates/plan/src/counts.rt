@@ -1,17 +1,10 @@
 //! Numbers that follow from the vertex counts of two trees.
 use formats::tree::vertex_count;
-ghost use Prim.Native.Nat.{_*_, _-_, _≤_, min};
+ghost use Prim.Native.Nat.{_*_, _-_, _≤_};
 ghost use mathlib.Core.Path.{_≡_};
 ghost use Rattle.model.specs.Order.{width, subproblems};
 ghost use Rattle.model.specs.Limits.{vertexLimit, widthLimit, subproblemLimit};
 ghost use Rattle.trees.specs.Accepted.{Sound};
-
-// The lesser of two numbers.
-pub fn lesser(a: usize, b: usize) -> usize
-    ensures { λ r. ⌜ r ≡ min a b ⌝ }
-{
-    if a <= b { a } else { b }
-}
 
 // The subproblems of trees of n and m vertices: n(3m - 2).
 pub fn product(n: usize, m: usize) -> usize

@@ -29,7 +29,12 @@ impl Blocks {
     pub const NEIGHBOUR_EDGE: usize = 6 * Limits::ROWS;
 
     pub const BEHIND: usize = 7 * Limits::ROWS;
+    // The rows of all blocks.
+    pub const ALL: usize = 8 * Limits::ROWS;
 }
+
+// The plan: rows of a place for each of a vertex's children or neighbours.
+pub type Plan = [[u8; Limits::PLACES]; Blocks::ALL];
 
 // A byte as an index.
 pub fn wide(x: u8) -> usize
@@ -39,7 +44,7 @@ pub fn wide(x: u8) -> usize
 }
 
 // How many children recorded vertex u has.
-pub fn child_count(plan: &[[u8; 8]; 512], u: u8) -> usize
+pub fn child_count(plan: &Plan, u: u8) -> usize
     requires { ⌜ u < vertexLimit ⌝ }
     ensures { λ r. ⌜ r ≡ childCountIn (now (plan .entry)) u ⌝ }
 {
@@ -47,7 +52,7 @@ pub fn child_count(plan: &[[u8; 8]; 512], u: u8) -> usize
 }
 
 // Its place in the postorder.
-pub fn place(plan: &[[u8; 8]; 512], u: u8) -> usize
+pub fn place(plan: &Plan, u: u8) -> usize
     requires { ⌜ u < vertexLimit ⌝ }
     ensures { λ r. ⌜ r ≡ placeIn (now (plan .entry)) u ⌝ }
 {
@@ -55,7 +60,7 @@ pub fn place(plan: &[[u8; 8]; 512], u: u8) -> usize
 }
 
 // The vertex in place i of the postorder.
-pub fn in_order(plan: &[[u8; 8]; 512], i: usize) -> u8
+pub fn in_order(plan: &Plan, i: usize) -> u8
     requires { ⌜ i < vertexLimit ⌝ }
     ensures { λ r. ⌜ r ≡ orderIn (now (plan .entry)) i ⌝ }
 {
@@ -63,7 +68,7 @@ pub fn in_order(plan: &[[u8; 8]; 512], i: usize) -> u8
 }
 
 // The parent of u; the root is its own.
-pub fn parent(plan: &[[u8; 8]; 512], u: u8) -> u8
+pub fn parent(plan: &Plan, u: u8) -> u8
     requires { ⌜ u < vertexLimit ⌝ }
     ensures { λ r. ⌜ r ≡ parentIn (now (plan .entry)) u ⌝ }
 {
@@ -71,7 +76,7 @@ pub fn parent(plan: &[[u8; 8]; 512], u: u8) -> u8
 }
 
 // The label of the edge to it.
-pub fn parent_edge(plan: &[[u8; 8]; 512], u: u8) -> u8
+pub fn parent_edge(plan: &Plan, u: u8) -> u8
     requires { ⌜ u < vertexLimit ⌝ }
     ensures { λ r. ⌜ r ≡ parentEdgeIn (now (plan .entry)) u ⌝ }
 {
@@ -79,7 +84,7 @@ pub fn parent_edge(plan: &[[u8; 8]; 512], u: u8) -> u8
 }
 
 // The i-th child of u.
-pub fn child(plan: &[[u8; 8]; 512], u: u8, i: usize) -> u8
+pub fn child(plan: &Plan, u: u8, i: usize) -> u8
     requires { ⌜ (u < vertexLimit) × (i < degreeLimit) ⌝ }
     ensures { λ r. ⌜ r ≡ childIn (now (plan .entry)) u i ⌝ }
 {
@@ -87,7 +92,7 @@ pub fn child(plan: &[[u8; 8]; 512], u: u8, i: usize) -> u8
 }
 
 // The label of the edge to it.
-pub fn child_edge(plan: &[[u8; 8]; 512], u: u8, i: usize) -> u8
+pub fn child_edge(plan: &Plan, u: u8, i: usize) -> u8
     requires { ⌜ (u < vertexLimit) × (i < degreeLimit) ⌝ }
     ensures { λ r. ⌜ r ≡ childEdgeIn (now (plan .entry)) u i ⌝ }
 {
@@ -95,7 +100,7 @@ pub fn child_edge(plan: &[[u8; 8]; 512], u: u8, i: usize) -> u8
 }
 
 // Its place in the postorder.
-pub fn child_place(plan: &[[u8; 8]; 512], u: u8, i: usize) -> usize
+pub fn child_place(plan: &Plan, u: u8, i: usize) -> usize
     requires { ⌜ (u < vertexLimit) × (i < degreeLimit) ⌝ }
     ensures { λ r. ⌜ r ≡ childPlaceIn (now (plan .entry)) u i ⌝ }
 {
@@ -103,7 +108,7 @@ pub fn child_place(plan: &[[u8; 8]; 512], u: u8, i: usize) -> usize
 }
 
 // How many neighbours found vertex v has.
-pub fn degree(plan: &[[u8; 8]; 512], v: u8) -> usize
+pub fn degree(plan: &Plan, v: u8) -> usize
     requires { ⌜ v < vertexLimit ⌝ }
     ensures { λ r. ⌜ r ≡ degreeIn (now (plan .entry)) v ⌝ }
 {
@@ -111,7 +116,7 @@ pub fn degree(plan: &[[u8; 8]; 512], v: u8) -> usize
 }
 
 // Where its subproblems begin among those of one recorded vertex.
-pub fn offset(plan: &[[u8; 8]; 512], v: u8) -> usize
+pub fn offset(plan: &Plan, v: u8) -> usize
     requires { ⌜ v < vertexLimit ⌝ }
     ensures { λ r. ⌜ r ≡ offsetIn (now (plan .entry)) v ⌝ }
 {
@@ -119,7 +124,7 @@ pub fn offset(plan: &[[u8; 8]; 512], v: u8) -> usize
 }
 
 // The j-th neighbour of v.
-pub fn neighbour(plan: &[[u8; 8]; 512], v: u8, j: usize) -> u8
+pub fn neighbour(plan: &Plan, v: u8, j: usize) -> u8
     requires { ⌜ (v < vertexLimit) × (j < degreeLimit) ⌝ }
     ensures { λ r. ⌜ r ≡ neighbourIn (now (plan .entry)) v j ⌝ }
 {
@@ -127,7 +132,7 @@ pub fn neighbour(plan: &[[u8; 8]; 512], v: u8, j: usize) -> u8
 }
 
 // The label of the edge to it.
-pub fn neighbour_edge(plan: &[[u8; 8]; 512], v: u8, j: usize) -> u8
+pub fn neighbour_edge(plan: &Plan, v: u8, j: usize) -> u8
     requires { ⌜ (v < vertexLimit) × (j < degreeLimit) ⌝ }
     ensures { λ r. ⌜ r ≡ neighbourEdgeIn (now (plan .entry)) v j ⌝ }
 {
@@ -135,7 +140,7 @@ pub fn neighbour_edge(plan: &[[u8; 8]; 512], v: u8, j: usize) -> u8
 }
 
 // Where the subproblem behind it stands among those of one recorded vertex.
-pub fn behind(plan: &[[u8; 8]; 512], v: u8, j: usize) -> usize
+pub fn behind(plan: &Plan, v: u8, j: usize) -> usize
     requires { ⌜ (v < vertexLimit) × (j < degreeLimit) ⌝ }
     ensures { λ r. ⌜ r ≡ behindIn (now (plan .entry)) v j ⌝ }
 {
@@ -143,7 +148,7 @@ pub fn behind(plan: &[[u8; 8]; 512], v: u8, j: usize) -> usize
 }
 
 // The last of the first m found vertices whose subproblems begin at `rest` or before; those of `first` do.
-pub fn locate(plan: &[[u8; 8]; 512], m: usize, rest: usize, first: u8) -> u8
+pub fn locate(plan: &Plan, m: usize, rest: usize, first: u8) -> u8
     requires { ⌜ (first < m) × (m ≤ vertexLimit) ⌝ }
     requires { ⌜ (0 < first → offsetIn (now plan) first ≤ rest) ⌝ }
     ensures { λ r. ⌜ Located (offsetIn (now (plan .entry))) m rest r ⌝ }
@@ -159,7 +164,7 @@ pub fn locate(plan: &[[u8; 8]; 512], m: usize, rest: usize, first: u8) -> u8
 }
 
 // Which choice s is for v: one more than its place for a neighbour, 0 for any other.
-pub fn slot(plan: &[[u8; 8]; 512], v: u8, s: u8) -> usize
+pub fn slot(plan: &Plan, v: u8, s: u8) -> usize
     requires { ⌜ v < vertexLimit ⌝ }
     requires { ⌜ degreeIn (now plan) v ≤ degreeLimit ⌝ }
     ensures { λ r. ⌜ SlotAt (now (plan .entry)) v s r ⌝ }

@@ -112,50 +112,50 @@ childAmong place own w = cond (ltb (placeOr place w) own) (w ∷ []) []
 
 -- those of the first i places
 unfoldable pub childrenAmong : List ℕ → List ℕ → ℕ → ℕ → List ℕ
-childrenAmong near place own i = gather (childAmong place own) near i
+childrenAmong row place own i = gather (childAmong place own) row i
 
 -- a child's row of the arrays comes from place `from` of the neighbours
-pub record ChildAt (near labels place : List ℕ) (i : ℕ) (label base vertex w : ℕ) : Type 0 where
+pub record ChildAt (row labels place : List ℕ) (i : ℕ) (label base vertex w : ℕ) : Type 0 where
   pub from : ℕ
   pub low : from < i
-  pub name : w ≡ getD near from 0
+  pub name : w ≡ getD row from 0
   pub is : vertex ≡ w
   pub edge : label ≡ getD labels from 0
   pub begins : base ≡ placeOr place w
 
-pub record ChildrenTo (near labels place : List ℕ) (own i c : ℕ) (label base vertex : List ℕ) : Type 0 where
-  pub used : c ≡ length (childrenAmong near place own i)
+pub record ChildrenTo (row labels place : List ℕ) (own i c : ℕ) (label base vertex : List ℕ) : Type 0 where
+  pub used : c ≡ length (childrenAmong row place own i)
   pub few : c ≤ i
   pub label-long : length label ≡ 8
   pub base-long : length base ≡ 8
   pub vertex-long : length vertex ≡ 8
-  pub get : (j : ℕ) → j < c → ChildAt near labels place i (getD label j 0) (getD base j 0) (getD vertex j 0) (getD (childrenAmong near place own i) j 0)
+  pub get : (j : ℕ) → j < c → ChildAt row labels place i (getD label j 0) (getD base j 0) (getD vertex j 0) (getD (childrenAmong row place own i) j 0)
 
-among-yes : (near place : List ℕ) (own i : ℕ) → ltb (placeOr place (getD near i 0)) own ≡ true → childrenAmong near place own (i + 1) ≡ childrenAmong near place own i ++ (getD near i 0 ∷ [])
+among-yes : (row place : List ℕ) (own i : ℕ) → ltb (placeOr place (getD row i 0)) own ≡ true → childrenAmong row place own (i + 1) ≡ childrenAmong row place own i ++ (getD row i 0 ∷ [])
 unfolding childrenAmong gather childAmong
-among-yes near place own i h = rw (add-one, gather, h)
+among-yes row place own i h = rw (add-one, gather, h)
 
-among-no : (near place : List ℕ) (own i : ℕ) → ltb (placeOr place (getD near i 0)) own ≡ false → childrenAmong near place own (i + 1) ≡ childrenAmong near place own i
+among-no : (row place : List ℕ) (own i : ℕ) → ltb (placeOr place (getD row i 0)) own ≡ false → childrenAmong row place own (i + 1) ≡ childrenAmong row place own i
 unfolding childrenAmong gather childAmong
-among-no near place own i h = rw (add-one, gather, h) (append-nil _)
+among-no row place own i h = rw (add-one, gather, h) (append-nil _)
 
-pub children-none : (near labels place : List ℕ) (own : ℕ) (label base vertex : List ℕ) → length label ≡ 8 → length base ≡ 8 → length vertex ≡ 8 → ChildrenTo near labels place own 0 0 label base vertex
+pub children-none : (row labels place : List ℕ) (own : ℕ) (label base vertex : List ℕ) → length label ≡ 8 → length base ≡ 8 → length vertex ≡ 8 → ChildrenTo row labels place own 0 0 label base vertex
 unfolding childrenAmong gather
-children-none near labels place own label base vertex a b c = record { used = refl; few = omega arith; label-long = a; base-long = b; vertex-long = c; get = λ j h. absurd (not-suc-le-zero h) }
+children-none row labels place own label base vertex a b c = record { used = refl; few = omega arith; label-long = a; base-long = b; vertex-long = c; get = λ j h. absurd (not-suc-le-zero h) }
 
-child-after : {near labels place : List ℕ} {i label base vertex w : ℕ} → ChildAt near labels place i label base vertex w → ChildAt near labels place (i + 1) label base vertex w
+child-after : {row labels place : List ℕ} {i label base vertex w : ℕ} → ChildAt row labels place i label base vertex w → ChildAt row labels place (i + 1) label base vertex w
 child-after k = let l = k .low in record { from = k .from; low = omega arith; name = k .name; is = k .is; edge = k .edge; begins = k .begins }
 
 -- the places below c stay
-child-kept : (near labels place : List ℕ) (own i c : ℕ) (label base vertex : List ℕ) (x y z : ℕ) → ChildrenTo near labels place own i c label base vertex → (j : ℕ) → j < c → ChildAt near labels place (i + 1) (getD (set label c x) j 0) (getD (set base c y) j 0) (getD (set vertex c z) j 0) (getD (childrenAmong near place own i) j 0)
-child-kept near labels place own i c label base vertex x y z k j h =
+child-kept : (row labels place : List ℕ) (own i c : ℕ) (label base vertex : List ℕ) (x y z : ℕ) → ChildrenTo row labels place own i c label base vertex → (j : ℕ) → j < c → ChildAt row labels place (i + 1) (getD (set label c x) j 0) (getD (set base c y) j 0) (getD (set vertex c z) j 0) (getD (childrenAmong row place own i) j 0)
+child-kept row labels place own i c label base vertex x y z k j h =
     let n : j ≢ c = λ e. omega (arith, e) in
     rw (getD-set-other label c j x 0 n, getD-set-other base c j y 0 n, getD-set-other vertex c j z 0 n) (child-after (k .get j h))
 
 -- one place more: what stands at c is counted or not
-pub children-more : (near labels place : List ℕ) (own i c : ℕ) (label base vertex : List ℕ) (w p y d : ℕ) → i < 8 → ChildrenTo near labels place own i c label base vertex → w ≡ getD near i 0 → p ≡ placeOr place w → y ≡ p → d ≡ nextOf c p own → ChildrenTo near labels place own (i + 1) d (set label c (getD labels i 0)) (set base c y) (set vertex c w)
+pub children-more : (row labels place : List ℕ) (own i c : ℕ) (label base vertex : List ℕ) (w p y d : ℕ) → i < 8 → ChildrenTo row labels place own i c label base vertex → w ≡ getD row i 0 → p ≡ placeOr place w → y ≡ p → d ≡ nextOf c p own → ChildrenTo row labels place own (i + 1) d (set label c (getD labels i 0)) (set base c y) (set vertex c w)
 unfolding nextOf
-children-more near labels place own i c label base vertex w p y d h k ew ep ey ed = go (ltb p own) refl
+children-more row labels place own i c label base vertex w p y d h k ew ep ey ed = go (ltb p own) refl
   where
     x : ℕ
     x = getD labels i 0
@@ -163,14 +163,14 @@ children-more near labels place own i c label base vertex w p y d h k ew ep ey e
     few : c ≤ i
     few = k .few
 
-    test : ltb (placeOr place (getD near i 0)) own ≡ ltb p own
+    test : ltb (placeOr place (getD row i 0)) own ≡ ltb p own
     test = ap (λ (z : ℕ). ltb z own) (sym (ep ∙ ap (placeOr place) ew))
 
-    go : (t : Bool) → ltb p own ≡ t → ChildrenTo near labels place own (i + 1) d (set label c x) (set base c y) (set vertex c w)
+    go : (t : Bool) → ltb p own ≡ t → ChildrenTo row labels place own (i + 1) d (set label c x) (set base c y) (set vertex c w)
     go true e =
-        let all : childrenAmong near place own (i + 1) ≡ childrenAmong near place own i ++ (getD near i 0 ∷ []) = among-yes near place own i (test ∙ e) in
-        let long : length (childrenAmong near place own i ++ (getD near i 0 ∷ [])) ≡ length (childrenAmong near place own i) + 1 = length-append (childrenAmong near place own i) (getD near i 0 ∷ []) in
-        let u : c ≡ length (childrenAmong near place own i) = k .used in
+        let all : childrenAmong row place own (i + 1) ≡ childrenAmong row place own i ++ (getD row i 0 ∷ []) = among-yes row place own i (test ∙ e) in
+        let long : length (childrenAmong row place own i ++ (getD row i 0 ∷ [])) ≡ length (childrenAmong row place own i) + 1 = length-append (childrenAmong row place own i) (getD row i 0 ∷ []) in
+        let u : c ≡ length (childrenAmong row place own i) = k .used in
         let la : length label ≡ 8 = k .label-long in
         let lb : length base ≡ 8 = k .base-long in
         let lv : length vertex ≡ 8 = k .vertex-long in
@@ -182,7 +182,7 @@ children-more near labels place own i c label base vertex w p y d h k ew ep ey e
           base-long = length-set base c y ∙ lb;
           vertex-long = length-set vertex c w ∙ lv;
           get = λ j l. rw all (⊎-elim
-              (λ q. let last : getD (childrenAmong near place own i ++ (getD near i 0 ∷ [])) j 0 ≡ w = at-last (childrenAmong near place own i) (getD near i 0) j (q ∙ u) ∙ sym ew in
+              (λ q. let last : getD (childrenAmong row place own i ++ (getD row i 0 ∷ [])) j 0 ≡ w = at-last (childrenAmong row place own i) (getD row i 0) j (q ∙ u) ∙ sym ew in
               record {
                 from = i;
                 low = omega arith;
@@ -191,7 +191,7 @@ children-more near labels place own i c label base vertex w p y d h k ew ep ey e
                 edge = ap (λ (z : ℕ). getD (set label c x) z 0) q ∙ getD-set-same label c x 0 (omega (arith, few));
                 begins = ap (λ (z : ℕ). getD (set base c y) z 0) q ∙ getD-set-same base c y 0 (omega (arith, few)) ∙ ey ∙ rw (ep, last);
               })
-              (λ q. rw (List·getD-append (childrenAmong near place own i) (getD near i 0 ∷ []) 0 j (omega arith)) (child-kept near labels place own i c label base vertex x y w k j (omega arith)))
+              (λ q. rw (List·getD-append (childrenAmong row place own i) (getD row i 0 ∷ []) 0 j (omega arith)) (child-kept row labels place own i c label base vertex x y w k j (omega arith)))
               (same? j c));
         }
       where
@@ -199,7 +199,7 @@ children-more near labels place own i c label base vertex w p y d h k ew ep ey e
         at-last [] a j e = rw e
         at-last (b ∷ l) a j e = rw e (at-last l a (length l) refl)
     go false e =
-        let none : childrenAmong near place own (i + 1) ≡ childrenAmong near place own i = among-no near place own i (test ∙ e) in
+        let none : childrenAmong row place own (i + 1) ≡ childrenAmong row place own i = among-no row place own i (test ∙ e) in
         let dd : d ≡ c = ed ∙ rw e in
         record {
           used = dd ∙ k .used ∙ ap length (sym none);
@@ -207,7 +207,7 @@ children-more near labels place own i c label base vertex w p y d h k ew ep ey e
           label-long = length-set label c x ∙ k .label-long;
           base-long = length-set base c y ∙ k .base-long;
           vertex-long = length-set vertex c w ∙ k .vertex-long;
-          get = λ j l. rw none (child-kept near labels place own i c label base vertex x y w k j (omega arith));
+          get = λ j l. rw none (child-kept row labels place own i c label base vertex x y w k j (omega arith));
         }
 
 -- ---- the children of u, in an accepted tree
@@ -277,21 +277,21 @@ pub record At (row : List ℕ) (v k : ℕ) : Type 0 where
   pub before : (i : ℕ) → i < k → getD row i 0 ≡ v → ⊥
   pub here : k < 8 → getD row k 0 ≡ v
 
-pub record Behind (near : List (List ℕ)) (starts : List ℕ) (v x r : ℕ) : Type 0 where
+pub record Behind (rows : List (List ℕ)) (starts : List ℕ) (v x r : ℕ) : Type 0 where
   pub at : ℕ
-  pub found : x < 64 → At (getD near x []) v at
+  pub found : x < 64 → At (getD rows x []) v at
   pub is : x < 64 → r ≡ getD starts x 0 + 1 + at
   pub small : r ≤ 255
 
-pub record BehindTo (near : List (List ℕ)) (starts : List ℕ) (v j : ℕ) (r : List ℕ) : Type 0 where
+pub record BehindTo (rows : List (List ℕ)) (starts : List ℕ) (v j : ℕ) (r : List ℕ) : Type 0 where
   pub long : length r ≡ 8
-  pub get : (i : ℕ) → i < j → Behind near starts v (getD (getD near v []) i 0) (getD r i 0)
+  pub get : (i : ℕ) → i < j → Behind rows starts v (getD (getD rows v []) i 0) (getD r i 0)
 
-pub behind-none : (near : List (List ℕ)) (starts : List ℕ) (v : ℕ) (r : List ℕ) → length r ≡ 8 → BehindTo near starts v 0 r
-behind-none near starts v r e = record { long = e; get = λ i l. absurd (not-suc-le-zero l) }
+pub behind-none : (rows : List (List ℕ)) (starts : List ℕ) (v : ℕ) (r : List ℕ) → length r ≡ 8 → BehindTo rows starts v 0 r
+behind-none rows starts v r e = record { long = e; get = λ i l. absurd (not-suc-le-zero l) }
 
-pub behind-more : (near : List (List ℕ)) (starts : List ℕ) (v j : ℕ) (r : List ℕ) (b : ℕ) → j < 8 → BehindTo near starts v j r → Behind near starts v (getD (getD near v []) j 0) b → BehindTo near starts v (j + 1) (set r j b)
-behind-more near starts v j r b h B N =
+pub behind-more : (rows : List (List ℕ)) (starts : List ℕ) (v j : ℕ) (r : List ℕ) (b : ℕ) → j < 8 → BehindTo rows starts v j r → Behind rows starts v (getD (getD rows v []) j 0) b → BehindTo rows starts v (j + 1) (set r j b)
+behind-more rows starts v j r b h B N =
     let n : length r ≡ 8 = B .long in
     record {
       long = length-set r j b ∙ n;

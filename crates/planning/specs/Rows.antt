@@ -22,16 +22,16 @@ use Rattle.planning.specs.Making.{TakenPlaces, taken-neighbours, Starts,
 
 -- ---- what was read
 
-pub record RecordedRead (r : List ℕ) (near labels : List (List ℕ)) (order place : List ℕ) : Type 0 where
+pub record RecordedRead (r : List ℕ) (rows labels : List (List ℕ)) (order place : List ℕ) : Type 0 where
   pub sound : Sound r
-  pub neighbours : near ≡ neighbourTable r
+  pub neighbours : rows ≡ neighbourTable r
   pub edges : labels ≡ edgeLabelTable r
   pub ordered : (i : ℕ) → i < count r → getD order i 0 ≡ getD (postorder r) i 0
   pub placed : (u : ℕ) → u < count r → getD place u 0 ≡ position r u
 
-pub record FoundRead (f : List ℕ) (near labels : List (List ℕ)) (starts : List ℕ) : Type 0 where
+pub record FoundRead (f : List ℕ) (rows labels : List (List ℕ)) (starts : List ℕ) : Type 0 where
   pub sound : Sound f
-  pub neighbours : near ≡ neighbourTable f
+  pub neighbours : rows ≡ neighbourTable f
   pub edges : labels ≡ edgeLabelTable f
   pub offsets : (v : ℕ) → v ≤ count f → getD starts v 0 ≡ offset f v
   pub small : (v : ℕ) → getD starts v 0 ≤ widthLimit
@@ -116,11 +116,11 @@ pub record RecordedHalf (r : List ℕ) (old plan : List (List ℕ)) (u : ℕ) : 
 pub recorded-none : (r : List ℕ) (plan : List (List ℕ)) → length plan ≡ 512 → RecordedHalf r plan plan 0
 recorded-none r plan e = record { long = e; get = λ x h. absurd (not-suc-le-zero h); kept = λ x h. refl }
 
-pub recorded-more : {r : List ℕ} {near labels : List (List ℕ)} {order place : List ℕ} → RecordedRead r near labels order place → (old plan : List (List ℕ)) (u : ℕ) → u < count r → RecordedHalf r old plan u
-    → (c : ℕ) (label at vertex head : List ℕ) (k : ℕ) → ChildrenTo (getD near u []) (getD labels u []) place (getD place u 0) 8 c label at vertex → LaterAt (getD near u []) place (getD place u 0) k
-    → Head head c (getD place u 0) (getD order u 0) (atOr (getD near u []) k) (atOr (getD labels u []) k)
+pub recorded-more : {r : List ℕ} {rows labels : List (List ℕ)} {order place : List ℕ} → RecordedRead r rows labels order place → (old plan : List (List ℕ)) (u : ℕ) → u < count r → RecordedHalf r old plan u
+    → (c : ℕ) (label at vertex head : List ℕ) (k : ℕ) → ChildrenTo (getD rows u []) (getD labels u []) place (getD place u 0) 8 c label at vertex → LaterAt (getD rows u []) place (getD place u 0) k
+    → Head head c (getD place u 0) (getD order u 0) (atOr (getD rows u []) k) (atOr (getD labels u []) k)
     → RecordedHalf r old (set (set (set (set plan u head) (64 + u) vertex) (128 + u) label) (192 + u) at) (u + 1)
-recorded-more {r} {near} {labels} {order} {place} N old plan u lu P c label at vertex head k C F H =
+recorded-more {r} {rows} {labels} {order} {place} N old plan u lu P c label at vertex head k C F H =
     let p = N .sound .passed in
     let few : count r ≤ 64 = p .ends .few in
     let n : length plan ≡ 512 = P .long in
@@ -176,22 +176,22 @@ pub record FoundHalf (f : List ℕ) (old plan : List (List ℕ)) (v : ℕ) : Typ
 pub found-none : (f : List ℕ) (plan : List (List ℕ)) → length plan ≡ 512 → FoundHalf f plan plan 0
 found-none f plan e = record { long = e; get = λ x h. absurd (not-suc-le-zero h); kept = λ x h. refl }
 
-pub found-more : {f : List ℕ} {near labels : List (List ℕ)} {starts : List ℕ} → FoundRead f near labels starts → (old plan : List (List ℕ)) (v : ℕ) → v < count f → FoundHalf f old plan v
-    → (k : ℕ) (back head : List ℕ) → TakenPlaces (getD near v []) k → BehindTo near starts v 8 back → getD head 0 0 ≡ k → getD head 1 0 ≡ getD starts v 0
-    → FoundHalf f old (set (set (set (set plan (256 + v) head) (320 + v) (getD near v [])) (384 + v) (getD labels v [])) (448 + v) back) (v + 1)
-found-more {f} {near} {labels} {starts} N old plan v lv P k back head t B e0 e1 =
+pub found-more : {f : List ℕ} {rows labels : List (List ℕ)} {starts : List ℕ} → FoundRead f rows labels starts → (old plan : List (List ℕ)) (v : ℕ) → v < count f → FoundHalf f old plan v
+    → (k : ℕ) (back head : List ℕ) → TakenPlaces (getD rows v []) k → BehindTo rows starts v 8 back → getD head 0 0 ≡ k → getD head 1 0 ≡ getD starts v 0
+    → FoundHalf f old (set (set (set (set plan (256 + v) head) (320 + v) (getD rows v [])) (384 + v) (getD labels v [])) (448 + v) back) (v + 1)
+found-more {f} {rows} {labels} {starts} N old plan v lv P k back head t B e0 e1 =
     let p = N .sound .passed in
     let few : count f ≤ 64 = p .ends .few in
     let n : length plan ≡ 512 = P .long in
     let used : k ≡ length (neighbours f v) = taken-neighbours f _ _ p v k lv (rw (N .neighbours) at t) in
     let d : length (neighbours f v) ≤ 8 = few-neighbours f _ _ p v lv in
-    let a1 = stored-1 (256 + v) 256 v plan head (getD near v []) (getD labels v []) back refl (omega arith) in
-    let a2 = stored-2 (256 + v) 256 v plan head (getD near v []) (getD labels v []) back refl (omega arith) in
-    let a3 = stored-3 (256 + v) 256 v plan head (getD near v []) (getD labels v []) back refl (omega arith) in
-    let a4 = stored-4 (256 + v) 256 v plan head (getD near v []) (getD labels v []) back refl (omega arith) in
-    let o = stored-other (256 + v) 256 v plan head (getD near v []) (getD labels v []) back in
+    let a1 = stored-1 (256 + v) 256 v plan head (getD rows v []) (getD labels v []) back refl (omega arith) in
+    let a2 = stored-2 (256 + v) 256 v plan head (getD rows v []) (getD labels v []) back refl (omega arith) in
+    let a3 = stored-3 (256 + v) 256 v plan head (getD rows v []) (getD labels v []) back refl (omega arith) in
+    let a4 = stored-4 (256 + v) 256 v plan head (getD rows v []) (getD labels v []) back refl (omega arith) in
+    let o = stored-other (256 + v) 256 v plan head (getD rows v []) (getD labels v []) back in
     record {
-      long = stored-long (256 + v) 256 v plan head (getD near v []) (getD labels v []) back ∙ n;
+      long = stored-long (256 + v) 256 v plan head (getD rows v []) (getD labels v []) back ∙ n;
       get = λ x h. ⊎-elim
           (λ e. rw e (record {
             degree = rw a1 (e0 ∙ used);
@@ -210,7 +210,7 @@ found-more {f} {near} {labels} {starts} N old plan v lv P k back head t B e0 e1 
       kept = λ x h. o x (λ q. omega arith) (λ q. omega arith) (λ q. omega arith) (λ q. omega arith) ∙ P .kept x h;
     }
   where
-    named : (j : ℕ) → j < length (neighbours f v) → getD (getD near v []) j 0 ≡ getD (neighbours f v) j 0
+    named : (j : ℕ) → j < length (neighbours f v) → getD (getD rows v []) j 0 ≡ getD (neighbours f v) j 0
     named j l = rw (N .neighbours) (neighbour-at f _ _ (N .sound .passed) v j lv l)
 
 -- ---- both
@@ -223,15 +223,15 @@ planned {r} {f} {old} {plan} {plan′} few R F = record {
 
 -- ---- the postorder that was found
 
-module _ {r : List ℕ} (S : Sound r) {near : List (List ℕ)} {at : List ℕ} {len : ℕ} (e : near ≡ neighbourTable r) (o : OrderOf near at len) where
+module _ {r : List ℕ} (S : Sound r) {rows : List (List ℕ)} {at : List ℕ} {len : ℕ} (e : rows ≡ neighbourTable r) (o : OrderOf rows at len) where
   order-is : Ordered r at len
   order-is = ordered r _ _ (S .passed) at len (o .holds r _ _ (S .passed) e)
 
   pub order-different : Different at len
   order-different = ordered-different r _ _ (S .passed) at len order-is
 
-  pub recorded-read : (labels : List (List ℕ)) (place : List ℕ) → labels ≡ edgeLabelTable r → Placed at len place → RecordedRead r near labels at place
+  pub recorded-read : (labels : List (List ℕ)) (place : List ℕ) → labels ≡ edgeLabelTable r → Placed at len place → RecordedRead r rows labels at place
   recorded-read labels place b p = record { sound = S; neighbours = e; edges = b; ordered = order-is .get; placed = placed-position r _ _ (S .passed) at len order-is place p }
 
-pub found-read : {f : List ℕ} → Sound f → {near labels : List (List ℕ)} {starts : List ℕ} → near ≡ neighbourTable f → labels ≡ edgeLabelTable f → Starts f (count f) starts → FoundRead f near labels starts
+pub found-read : {f : List ℕ} → Sound f → {rows labels : List (List ℕ)} {starts : List ℕ} → rows ≡ neighbourTable f → labels ≡ edgeLabelTable f → Starts f (count f) starts → FoundRead f rows labels starts
 found-read S a b s = record { sound = S; neighbours = a; edges = b; offsets = s .offsets; small = s .small }

@@ -4,6 +4,7 @@ use formats::neighbours::neighbour_table;
 use formats::tree::vertex_count;
 use model::Limits;
 use plan::Blocks;
+use plan::Plan;
 use trees::places;
 use trees::postorder;
 ghost use Prim.Native.Nat.{ℕ, _+_, _<_, _≤_};
@@ -194,7 +195,7 @@ fn head_of(children: u8, own: u8, at: u8, parent: u8, edge: u8) -> [u8; 8]
 
 // The rows of the recorded tree, from what was read of it.
 fn store_recorded(
-    plan: &mut [[u8; 8]; 512],
+    plan: &mut Plan,
     recorded: &[u8],
     neighbours: &[[u8; 8]; 64],
     labels: &[[u8; 8]; 64],
@@ -227,7 +228,7 @@ fn store_recorded(
 
 // The rows of the found tree, from what was read of it.
 fn store_found(
-    plan: &mut [[u8; 8]; 512],
+    plan: &mut Plan,
     found: &[u8],
     neighbours: &[[u8; 8]; 64],
     labels: &[[u8; 8]; 64],
@@ -255,7 +256,7 @@ fn store_found(
 }
 
 // The recorded half. The found half stays.
-fn plan_recorded(plan: &mut [[u8; 8]; 512], recorded: &[u8])
+fn plan_recorded(plan: &mut Plan, recorded: &[u8])
     requires { ⌜ length (now plan) ≡ 512 ⌝ }
     requires { ⌜ Sound (now recorded) ⌝ }
     ensures { λ _. ⌜ RecordedHalf (now (recorded .entry)) (now (plan .entry)) (now (plan .exit)) (count (now (recorded .entry))) ⌝ }
@@ -270,7 +271,7 @@ fn plan_recorded(plan: &mut [[u8; 8]; 512], recorded: &[u8])
 }
 
 // The found half. The recorded half stays.
-fn plan_found(plan: &mut [[u8; 8]; 512], found: &[u8])
+fn plan_found(plan: &mut Plan, found: &[u8])
     requires { ⌜ length (now plan) ≡ 512 ⌝ }
     requires { ⌜ Sound (now found) ⌝ }
     ensures { λ _. ⌜ FoundHalf (now (found .entry)) (now (plan .entry)) (now (plan .exit)) (count (now (found .entry))) ⌝ }
@@ -283,7 +284,7 @@ fn plan_found(plan: &mut [[u8; 8]; 512], found: &[u8])
 }
 
 // The plan of two accepted trees, over whatever stood there.
-pub fn make(plan: &mut [[u8; 8]; 512], recorded: &[u8], found: &[u8])
+pub fn make(plan: &mut Plan, recorded: &[u8], found: &[u8])
     requires { ⌜ length (now plan) ≡ 512 ⌝ }
     requires { ⌜ Sound (now recorded) ⌝ }
     requires { ⌜ Sound (now found) ⌝ }

@@ -1,5 +1,6 @@
 //! Reading a mapping out of work numbers: a pair of vertices lists its branch pairs, and a branch pair lists the pair behind it.
 use formats::tree::vertex_count;
+use plan::Plan;
 use plan::child;
 use plan::child_count;
 use solver::subproblem::choice;
@@ -20,7 +21,7 @@ fn list_pair(
     table: &[u8],
     recorded: &[u8],
     found: &[u8],
-    plan: &[[u8; 8]; 512],
+    plan: &Plan,
     work: &[i32],
     u: u8,
     v: u8,
@@ -60,7 +61,7 @@ fn list_branch(
     table: &[u8],
     recorded: &[u8],
     found: &[u8],
-    plan: &[[u8; 8]; 512],
+    plan: &Plan,
     work: &[i32],
     c: u8,
     x: u8,
@@ -96,7 +97,7 @@ pub fn read_out(
     table: &[u8],
     recorded: &[u8],
     found: &[u8],
-    plan: &[[u8; 8]; 512],
+    plan: &Plan,
     work: &[i32],
     u: u8,
     v: u8,

@@ -1,6 +1,8 @@
 //! Where a certificate's records stand: its length, where each row of records begins, and where one record does. What a record has of the neighbours of
 //! v: those other than s.
 use formats::tree::vertex_count;
+use model::Limits;
+use plan::Plan;
 use plan::child_count;
 use plan::counts::width_of;
 use plan::degree;
@@ -56,6 +58,17 @@ fn others_before(d: usize, q: usize) -> usize
 
 // ---- places
 
+// The rows of the array below: one for each vertex, and one more.
+pub struct Rows {}
+
+impl Rows {
+    pub const ALL: usize = Limits::ROWS + 1;
+}
+
+// Row i says where the records of the i-th vertex in postorder begin, and what the squares of the degrees of the first i found vertices add up to. A
+// certificate's length fits 32 bits.
+pub type Places = [[u32; 2]; Rows::ALL];
+
 // A place as an index.
 fn wide(x: u32) -> usize
     ensures { λ r. ⌜ r ≡ x ⌝ }
@@ -64,7 +77,7 @@ fn wide(x: u32) -> usize
 }
 
 // Where the records of the i-th vertex in postorder begin.
-pub fn begin(places: &[[u32; 2]; 65], i: usize) -> usize
+pub fn begin(places: &Places, i: usize) -> usize
     requires { ⌜ i ≤ vertexLimit ⌝ }
     ensures { λ r. ⌜ r ≡ beginIn (now (places .entry)) i ⌝ }
 {
@@ -72,7 +85,7 @@ pub fn begin(places: &[[u32; 2]; 65], i: usize) -> usize
 }
 
 // The sum of the squares of the degrees of the found vertices before v.
-fn squares(places: &[[u32; 2]; 65], v: u8) -> usize
+fn squares(places: &Places, v: u8) -> usize
     requires { ⌜ v ≤ vertexLimit ⌝ }
     ensures { λ r. ⌜ r ≡ squaresIn (now (places .entry)) v ⌝ }
 {
@@ -80,7 +93,7 @@ fn squares(places: &[[u32; 2]; 65], v: u8) -> usize
 }
 
 // What a record of the i-th vertex in postorder has beside the duals of v's neighbours: mark, value, a dual for each child.
-pub fn size(plan: &[[u8; 8]; 512], i: usize) -> usize
+pub fn size(plan: &Plan, i: usize) -> usize
     requires { ⌜ (i < vertexLimit) × (orderIn (now plan) i < vertexLimit) × (childCountIn (now plan) (orderIn (now plan) i) ≤ degreeLimit) ⌝ }
     ensures { λ r. ⌜ r ≡ 6 + 4 * childCountIn (now (plan .entry)) (orderIn (now (plan .entry)) i) ⌝ }
 {
@@ -88,7 +101,7 @@ pub fn size(plan: &[[u8; 8]; 512], i: usize) -> usize
 }
 
 // The sums of squares, each in its place.
-fn square_sums(p: &mut [[u32; 2]; 65], recorded: &[u8], found: &[u8], plan: &[[u8; 8]; 512])
+fn square_sums(p: &mut Places, recorded: &[u8], found: &[u8], plan: &Plan)
     requires { ⌜ length (now p) ≡ 65 ⌝ }
     requires { ⌜ Inputs (now recorded) (now found) (now plan) ⌝ }
     ensures { λ _. ⌜ SquaresTo (now (found .entry)) (count (now (found .entry))) (now (p .exit)) ⌝ }
@@ -106,7 +119,7 @@ fn square_sums(p: &mut [[u32; 2]; 65], recorded: &[u8], found: &[u8], plan: &[[u
 }
 
 // Where the records stand, over whatever stood there.
-pub fn places_of(p: &mut [[u32; 2]; 65], recorded: &[u8], found: &[u8], plan: &[[u8; 8]; 512])
+pub fn places_of(p: &mut Places, recorded: &[u8], found: &[u8], plan: &Plan)
     requires { ⌜ length (now p) ≡ 65 ⌝ }
     requires { ⌜ Inputs (now recorded) (now found) (now plan) ⌝ }
     ensures { λ _. ⌜ Laid (now (recorded .entry)) (now (found .entry)) (now (plan .entry)) (now (p .exit)) ⌝ }
@@ -132,8 +145,8 @@ pub fn places_of(p: &mut [[u32; 2]; 65], recorded: &[u8], found: &[u8], plan: &[
 pub fn record_in(
     recorded: &[u8],
     found: &[u8],
-    plan: &[[u8; 8]; 512],
-    places: &[[u32; 2]; 65],
+    plan: &Plan,
+    places: &Places,
     i: usize,
     first: usize,
     own: usize,
@@ -153,8 +166,8 @@ pub fn record_in(
 pub fn record_at(
     recorded: &[u8],
     found: &[u8],
-    plan: &[[u8; 8]; 512],
-    places: &[[u32; 2]; 65],
+    plan: &Plan,
+    places: &Places,
     i: usize,
     v: u8,
     q: usize,

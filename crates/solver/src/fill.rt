@@ -2,8 +2,9 @@
 use crate::subproblem::gains;
 use crate::subproblem::heaviest;
 use formats::tree::vertex_count;
+use integers::lesser;
+use plan::Plan;
 use plan::child_count;
-use plan::counts::lesser;
 use plan::counts::width_of;
 use plan::degree;
 use plan::in_order;
@@ -44,7 +45,7 @@ fn fill_pair(
     table: &[u8],
     recorded: &[u8],
     found: &[u8],
-    plan: &[[u8; 8]; 512],
+    plan: &Plan,
     work: &mut [i32],
     u: u8,
     v: u8,
@@ -86,7 +87,7 @@ fn fill_row(
     table: &[u8],
     recorded: &[u8],
     found: &[u8],
-    plan: &[[u8; 8]; 512],
+    plan: &Plan,
     work: &mut [i32],
     u: u8,
     run: Run,
@@ -123,7 +124,7 @@ pub fn fill(
     table: &[u8],
     recorded: &[u8],
     found: &[u8],
-    plan: &[[u8; 8]; 512],
+    plan: &Plan,
     work: &mut [i32],
     from: usize,
     count: usize,

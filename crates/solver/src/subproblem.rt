@@ -1,6 +1,7 @@
 //! One subproblem from the work numbers before it: the gains of its branches, their heaviest matching, and what it matches. The work
 //! numbers may be any: a gain is below 2^32, and so eight of them are far below the matching's limit.
 use model::Limits;
+use plan::Plan;
 use plan::behind;
 use plan::child_count;
 use plan::child_edge;
@@ -35,7 +36,7 @@ fn gain_row(
     table: &[u8],
     recorded: &[u8],
     found: &[u8],
-    plan: &[[u8; 8]; 512],
+    plan: &Plan,
     work: &[i32],
     u: u8,
     v: u8,
@@ -66,7 +67,7 @@ pub fn gains(
     table: &[u8],
     recorded: &[u8],
     found: &[u8],
-    plan: &[[u8; 8]; 512],
+    plan: &Plan,
     work: &[i32],
     u: u8,
     v: u8,
@@ -183,7 +184,7 @@ pub fn heaviest(g: &[u64; 64], k: usize, l: usize, c: usize) -> u64
 }
 
 // The neighbour of v in column p, 255 where p is none.
-fn name_or(plan: &[[u8; 8]; 512], v: u8, p: u8) -> u8
+fn name_or(plan: &Plan, v: u8, p: u8) -> u8
     requires { ⌜ v < vertexLimit ⌝ }
     ensures { λ r. ⌜ r ≡ nameOr (neighbourIn (now (plan .entry)) v) p ⌝ }
 {
@@ -195,7 +196,7 @@ fn name_or(plan: &[[u8; 8]; 512], v: u8, p: u8) -> u8
 }
 
 // The neighbour of v that each of k rows is matched with, 255 for none. A matched pair without gain is no pair.
-fn mates(g: &[u64; 64], k: usize, l: usize, plan: &[[u8; 8]; 512], v: u8) -> [u8; 8]
+fn mates(g: &[u64; 64], k: usize, l: usize, plan: &Plan, v: u8) -> [u8; 8]
     requires { ⌜ Sized k l (cell (now g)) ⌝ }
     requires { ⌜ v < vertexLimit ⌝ }
     ensures { λ r. ⌜ Mates k l (now (g .entry)) (neighbourIn (now (plan .entry)) v) r ⌝ }
@@ -219,7 +220,7 @@ pub fn choice(
     table: &[u8],
     recorded: &[u8],
     found: &[u8],
-    plan: &[[u8; 8]; 512],
+    plan: &Plan,
     work: &[i32],
     u: u8,
     v: u8,

@@ -4,10 +4,15 @@ pub mod record;
 use crate::record::put_records;
 use formats::tree::vertex_count;
 use job_items::start_item;
+use model::Limits;
 use model::WriteAnswer;
 use one_call::solve_and_read;
+use plan::Blocks;
+use plan::Plan;
 use planning::make;
 use put::front::put_front;
+use records::Places;
+use records::Rows;
 use records::begin;
 use records::places_of;
 ghost use Prim.Native.Nat.{_≤_};
@@ -23,8 +28,8 @@ fn solve_and_write(
     table: &[u8],
     recorded: &[u8],
     found: &[u8],
-    plan: &[[u8; 8]; 512],
-    places: &[[u32; 2]; 65],
+    plan: &Plan,
+    places: &Places,
     work: &mut [i32],
     certificate: &mut [u8],
 )
@@ -58,9 +63,9 @@ pub fn write_certificate(
     if item != 0 {
         return WriteAnswer::Refused(item);
     }
-    let mut plan = [[0u8; 8]; 512];
+    let mut plan = [[0u8; Limits::PLACES]; Blocks::ALL];
     make(&mut plan, recorded, found);
-    let mut places = [[0u32; 2]; 65];
+    let mut places = [[0u32; 2]; Rows::ALL];
     places_of(&mut places, recorded, found, &plan);
     let l = begin(&places, vertex_count(recorded));
     if certificate.len() < l {

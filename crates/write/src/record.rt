@@ -3,6 +3,7 @@ use duals::Duals;
 use duals::duals_of;
 use duals::pair_gains;
 use formats::tree::vertex_count;
+use plan::Plan;
 use plan::child_count;
 use plan::counts::width_of;
 use plan::degree;
@@ -10,6 +11,7 @@ use plan::in_order;
 use plan::offset as offset_of;
 use plan::weights::vertex_pair;
 use put::put_record;
+use records::Places;
 use records::column;
 use records::others_of;
 use records::record_at;
@@ -67,8 +69,8 @@ fn put_pair(
     table: &[u8],
     recorded: &[u8],
     found: &[u8],
-    plan: &[[u8; 8]; 512],
-    places: &[[u32; 2]; 65],
+    plan: &Plan,
+    places: &Places,
     work: &[i32],
     certificate: &mut [u8],
     i: usize,
@@ -101,8 +103,8 @@ fn put_row(
     table: &[u8],
     recorded: &[u8],
     found: &[u8],
-    plan: &[[u8; 8]; 512],
-    places: &[[u32; 2]; 65],
+    plan: &Plan,
+    places: &Places,
     work: &[i32],
     certificate: &mut [u8],
     i: usize,
@@ -137,8 +139,8 @@ pub fn put_records(
     table: &[u8],
     recorded: &[u8],
     found: &[u8],
-    plan: &[[u8; 8]; 512],
-    places: &[[u32; 2]; 65],
+    plan: &Plan,
+    places: &Places,
     work: &[i32],
     certificate: &mut [u8],
 )

@@ -8,10 +8,10 @@ use Rattle.planning.proofs.behind_row.Statement.{statement}
 use Rattle.planning.proofs.behind_row.Tie as tie
 
 abbrev Inv-loop : tie.InvT-loop
-Inv-loop near starts v row r₀ j₀ r j = (j ≤ 8) × BehindTo near starts v j r
+Inv-loop neighbours starts v row r₀ j₀ r j = (j ≤ 8) × BehindTo neighbours starts v j r
 
 abbrev μ-loop : tie.MeasureT-loop
-μ-loop near starts v row r₀ j₀ r j = 8 - j
+μ-loop neighbours starts v row r₀ j₀ r j = 8 - j
 
 mul-row : tie.Need-mul-row Inv-loop μ-loop
 mul-row c = search needs

@@ -8,10 +8,10 @@ use Rattle.planning.proofs.children.Statement.{statement}
 use Rattle.planning.proofs.children.Tie as tie
 
 abbrev Inv-loop : tie.InvT-loop
-Inv-loop place own near labels vertex₀ label₀ at₀ c₀ i₀ vertex label at c i = (i ≤ 8) × ChildrenTo near labels place own i c label at vertex
+Inv-loop place own neighbours labels vertex₀ label₀ at₀ c₀ i₀ vertex label at c i = (i ≤ 8) × ChildrenTo neighbours labels place own i c label at vertex
 
 abbrev μ-loop : tie.MeasureT-loop
-μ-loop place own near labels vertex₀ label₀ at₀ c₀ i₀ vertex label at c i = 8 - i
+μ-loop place own neighbours labels vertex₀ label₀ at₀ c₀ i₀ vertex label at c i = 8 - i
 
 loop-holds : tie.Need-loop-holds Inv-loop μ-loop
 loop-holds c = (omega arith, children-none _ _ _ _ _ _ _ refl refl refl)

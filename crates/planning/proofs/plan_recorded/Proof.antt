@@ -16,18 +16,18 @@ postorder-requires c κs = search needs
 places-requires : tie.Need-places-requires
 places-requires c κs =
     let at-postorder = c .before in
-    let at-near = at-postorder .before .before .before .before .before in
-    let a = at-near .before .before in
-    order-different (a .pre .1) (at-near .neighbour-table .ensures) (at-postorder .postorder .ensures)
+    let at-neighbours = at-postorder .before .before .before .before .before in
+    let a = at-neighbours .before .before in
+    order-different (a .pre .1) (at-neighbours .neighbour-table .ensures) (at-postorder .postorder .ensures)
 
 store-recorded-requires : tie.Need-store-recorded-requires
 store-recorded-requires c κs =
     let at-places = c .before .before .before .before .before in
     let at-postorder = at-places .before .before in
     let at-labels = at-postorder .before .before in
-    let at-near = at-labels .before .before .before in
-    let a = at-near .before .before in
-    (a .pre .0, recorded-read (a .pre .1) (at-near .neighbour-table .ensures) (at-postorder .postorder .ensures) _ _ (at-labels .edge-label-table .ensures) (at-places .places .ensures))
+    let at-neighbours = at-labels .before .before .before in
+    let a = at-neighbours .before .before in
+    (a .pre .0, recorded-read (a .pre .1) (at-neighbours .neighbour-table .ensures) (at-postorder .postorder .ensures) _ _ (at-labels .edge-label-table .ensures) (at-places .places .ensures))
 
 returns : tie.Need-returns
 returns c = search needs

@@ -9,10 +9,10 @@ use Rattle.planning.proofs.starts.Statement.{statement}
 use Rattle.planning.proofs.starts.Tie as tie
 
 abbrev Inv-loop : tie.InvT-loop
-Inv-loop found near n s₀ v₀ s v = (v ≤ n) × (n ≡ count found) × Starts found v s
+Inv-loop found neighbours n s₀ v₀ s v = (v ≤ n) × (n ≡ count found) × Starts found v s
 
 abbrev μ-loop : tie.MeasureT-loop
-μ-loop found near n s₀ v₀ s v = n - v
+μ-loop found neighbours n s₀ v₀ s v = n - v
 
 vertex-count-requires : tie.Need-vertex-count-requires Inv-loop μ-loop
 vertex-count-requires c κs =

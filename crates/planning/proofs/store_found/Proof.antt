@@ -9,10 +9,10 @@ use Rattle.planning.proofs.store_found.Statement.{statement}
 use Rattle.planning.proofs.store_found.Tie as tie
 
 abbrev Inv-loop : tie.InvT-loop
-Inv-loop plan₀ found near labels starts m v₀ plan v = (v ≤ m) × (m ≡ count found) × (m ≤ 64) × FoundHalf found plan₀ plan v
+Inv-loop plan₀ found neighbours labels starts m v₀ plan v = (v ≤ m) × (m ≡ count found) × (m ≤ 64) × FoundHalf found plan₀ plan v
 
 abbrev μ-loop : tie.MeasureT-loop
-μ-loop plan₀ found near labels starts m v₀ plan v = m - v
+μ-loop plan₀ found neighbours labels starts m v₀ plan v = m - v
 
 vertex-count-requires : tie.Need-vertex-count-requires Inv-loop μ-loop
 vertex-count-requires c κs =

@@ -9,10 +9,10 @@ use Rattle.planning.proofs.store_recorded.Statement.{statement}
 use Rattle.planning.proofs.store_recorded.Tie as tie
 
 abbrev Inv-loop : tie.InvT-loop
-Inv-loop plan₀ recorded near labels order place n u₀ plan u = (u ≤ n) × (n ≡ count recorded) × (n ≤ 64) × RecordedHalf recorded plan₀ plan u
+Inv-loop plan₀ recorded neighbours labels order place n u₀ plan u = (u ≤ n) × (n ≡ count recorded) × (n ≤ 64) × RecordedHalf recorded plan₀ plan u
 
 abbrev μ-loop : tie.MeasureT-loop
-μ-loop plan₀ recorded near labels order place n u₀ plan u = n - u
+μ-loop plan₀ recorded neighbours labels order place n u₀ plan u = n - u
 
 vertex-count-requires : tie.Need-vertex-count-requires Inv-loop μ-loop
 vertex-count-requires c κs =

@@ -1,16 +1,17 @@
 -- `run_slices` ends. Assumes nothing.
 use mathlib.Core.Path.{_≡_}
-use Prim.Native.Nat.{_-_, _≤_}
+use Prim.Native.Nat.{_+_, _-_, _≤_}
+use Rattle.model.specs.Limits.{subproblemLimit}
 use lib.ListN.{length}
 use borrow.Author.Needs.{needs}
 use Rattle.job_runs.proofs.calls.run_slices.Statement.{statement}
 use Rattle.job_runs.proofs.calls.run_slices.Tie as tie
 
 abbrev Inv-loop : tie.InvT-loop
-Inv-loop table recorded found budget work₀ j₀ advances₀ work j advances = (advances ≤ 12161) × (length work ≡ length work₀)
+Inv-loop table recorded found budget work₀ j₀ advances₀ work j advances = (advances ≤ subproblemLimit + 1) × (length work ≡ length work₀)
 
 abbrev μ-loop : tie.MeasureT-loop
-μ-loop table recorded found budget work₀ j₀ advances₀ work j advances = 12161 - advances
+μ-loop table recorded found budget work₀ j₀ advances₀ work j advances = subproblemLimit + 1 - advances
 
 loop-holds : tie.Need-loop-holds Inv-loop μ-loop
 loop-holds c = search needs
