@@ -12,7 +12,8 @@
  * Work numbers, and the mapping or certificate that a call writes, may have more room than needed: what lies behind is left as it was. A table, a tree, and
  * a certificate that is checked are refused if their count is not exactly their length: to check what was written, pass the length that was given back.
  *
- * The calls need stack: up to 65,000 bytes on x86-64, most for two equal paths of 64 vertices (docs/BENCHMARKS.md).
+ * The calls need stack: measured on x86-64, the most was just below 65,000 bytes, for two equal paths of 64 vertices (docs/BENCHMARKS.md). That is no
+ * proved limit: leave room.
  *
  * There are n(3m - 2) subproblems, never more than 12,160. */
 #ifndef PENSUMMER_H
@@ -27,21 +28,21 @@ extern "C" {
 
 /* A certificate is never longer, in bytes. */
 #define PENSUMMER_CERTIFICATE_MOST 278736
-/* There are never more work numbers to lend. */
-#define PENSUMMER_WORK_MOST 12160
 /* A tree has no more vertices, so that no mapping is longer. */
 #define PENSUMMER_VERTICES_MOST 64
+/* There are never more work numbers to lend: n(3m - 2). */
+#define PENSUMMER_WORK_MOST (PENSUMMER_VERTICES_MOST * (3 * PENSUMMER_VERTICES_MOST - 2))
 /* The partner of a vertex without one. */
 #define PENSUMMER_NONE 255
 
-/* refusal: as above; weight: the mapping's, 0 where the call was refused. */
+/* refusal: as above; weight: the mapping's, 0 where the call was refused. A match gives none below 0; a finish over altered work numbers may. */
 struct pensummer_match_result {
     uint32_t refusal;
     int32_t weight;
 };
 
-/* A job's state. It belongs to the caller, who lends it to each call. Any bytes may stand in it: 0 in `idle` says that a job was started, any other
- * number that none is. */
+/* A job's state. It belongs to the caller, who lends it to each call. Any bytes may stand in it: 0 in `idle` says that the record is not idle, any
+ * other number that it is. */
 struct pensummer_job {
     uint32_t idle, n, m, position, total;
 };

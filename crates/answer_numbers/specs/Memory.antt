@@ -9,7 +9,7 @@ use Rattle.model.specs.declared.JobRecord.{JobRecord}
 use Rattle.model.specs.Jobs.{startItem, advanceItem, startOf, advanceOf}
 use Rattle.answer_numbers.specs.declared.job_numbers.JobMemory.{JobMemory}
 
--- 0 says that a job was started, any other number that none was
+-- 0 says that the record is not idle, any other number that it is
 unfoldable pub recordOf : JobMemory → JobRecord
 recordOf x = record { idle = not (eqb (x .idle) 0); n = x .n; m = x .m; position = x .position; total = x .total }
 

@@ -7,7 +7,7 @@ ghost use mathlib.Core.Bool.{cond};
 ghost use Rattle.model.specs.Jobs.{startRefusal, advanceRefusal, advanceCount};
 ghost use Rattle.answer_numbers.specs.Memory.{recordOf, memoryOf, memoryAfter};
 
-// The caller's record of a job: 0 in `idle` says that a job was started, any other number that none was.
+// The caller's record of a job: 0 in `idle` says that it is not idle, any other number that it is.
 #[repr(C)]
 pub struct JobMemory {
     pub idle: u32,

@@ -21,7 +21,8 @@ module _ (a b : ℕ → ℕ) where
   Closes j = (a j ≡ b j) ⊎ Walk j (a j) (b j)
 
   -- The component of x after i edges, named by one of its vertices: edge i gives the name of its first end's component to its second end's.
-  -- Two vertices have the same component exactly if a path by the first i edges joins them (theorem `component-walk`).
+  -- Two vertices have the same component exactly if a path by the first i edges joins them (theorems `component-walk`
+  -- and `walk-component`).
   unfoldable pub component : ℕ → ℕ → ℕ
   component zero x = x
   component (suc i) x = cond (eqb (component i x) (component i (b i))) (component i (a i)) (component i x)

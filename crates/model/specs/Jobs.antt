@@ -124,7 +124,7 @@ advanceWork j table recorded found budget work =
     work
 
 -- the paper's number for each answer, 0 where the call is not refused; and the count, 0 where it is. What `startOf` and `advanceOf` answer in
--- these numbers: `start-refusal`, `advance-refusal` and `advance-count` (crates/jobs)
+-- these numbers: `start-refusal`, `advance-refusal`, and of an advance that is not refused `advance-count` (crates/jobs)
 unfoldable pub startRefusal : StartAnswer → ℕ
 startRefusal Started = 0
 startRefusal (start.Refused k) = k

@@ -1,5 +1,5 @@
--- The numbers that paper 01 fixes for tables, trees and weights, each named once for the definitions, and what follows from them. The code has the same
--- of the first in src/lib.rt (`weights` and `sizes` there). A job's total has its limit in `Jobs`.
+-- The numbers that paper 01 fixes for tables, trees and weights, each named once for the definitions, and what follows from them. The code has the
+-- same in src/lib.rt as far as it uses them (`weights` and `sizes` there). A job's total has its limit in `Jobs`.
 use Prim.Native.Nat.{ℕ, _+_, _*_, _-_}
 use lib.IntN.{ℤ, negsuc}
 
@@ -44,7 +44,8 @@ widthLimit = 3 * vertexLimit - 2
 abbrev pub subproblemLimit : ℕ
 subproblemLimit = vertexLimit * widthLimit
 
--- the greatest gain, and the greatest dual that is written: a stored value plus the weight of an edge, 128,000,000 (a check takes any dual of 32 bits)
+-- no gain is greater, and so no dual that is written: a stored value plus the weight of an edge, 128,000,000 (a check takes any dual from 0 to
+-- 2,147,483,647)
 abbrev pub dualLimit : ℕ
 dualLimit = ceiling + weightLimit
 

@@ -85,7 +85,8 @@ pub struct AdvanceOutcome {
     pub answer: AdvanceAnswer,
 }
 
-// The answer of a match: the weight of the mapping, or the number of the item that refused the call.
+// The answer of a match, and of a finish: the weight of the mapping, which is below 0 only over altered work numbers, or the number of the item that
+// refused the call.
 pub enum MatchAnswer {
     Found(i32),
     Refused(u8),
