@@ -2,7 +2,6 @@
 pub mod bytes;
 pub mod inputs;
 pub mod marks;
-pub mod neighbours;
 pub mod split;
 pub mod table;
 pub mod tree;

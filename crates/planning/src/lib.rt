@@ -1,6 +1,6 @@
 //! Making the plan: each half reads its own tree once and leaves the other half as it was.
-use formats::neighbours::edge_label_table;
-use formats::neighbours::neighbour_table;
+use adjacency::edge_label_table;
+use adjacency::neighbour_table;
 use formats::tree::vertex_count;
 use model::Limits;
 use plan::Blocks;

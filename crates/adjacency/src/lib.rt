@@ -1,8 +1,8 @@
 //! Neighbours as eight places for each of 64 vertices, and in the same places the labels of the edges to them.
-use crate::tree::edge_label_at;
-use crate::tree::end_a;
-use crate::tree::end_b;
-use crate::tree::vertex_count;
+use formats::tree::edge_label_at;
+use formats::tree::end_a;
+use formats::tree::end_b;
+use formats::tree::vertex_count;
 ghost use Prim.Native.Nat.{min};
 ghost use lib.Dec.{eqb};
 ghost use lib.ListN.{getD, replicate};
@@ -13,7 +13,7 @@ ghost use Rattle.model.specs.Limits.{vertexLimit, degreeLimit, noVertex};
 ghost use Rattle.model.specs.Tree.{count};
 ghost use Rattle.model.specs.Graph.{neighbourTable, edgeLabelTable};
 ghost use Rattle.trees.specs.Accepted.{Ends};
-ghost use Rattle.formats.specs.Insertion.{carried, putIn};
+ghost use Rattle.adjacency.specs.Insertion.{carried, putIn};
 
 // The lesser of what a place held and what is carried to it stays.
 fn stays(x: u8, c: u8) -> u8

@@ -1,10 +1,10 @@
 -- `put_in` meets its contract. Assumes nothing.
 use Prim.Native.Nat.{_-_, _≤_}
-use Rattle.formats.specs.Insertion.{putIn, Putting, putting-none, putting-more, putting-all}
+use Rattle.adjacency.specs.Insertion.{putIn, Putting, putting-none, putting-more, putting-all}
 use borrow.Author.Needs.{needs}
 use native.Mathlib.Omega.{arith}
-use Rattle.formats.proofs.neighbours.put_in.Statement.{statement}
-use Rattle.formats.proofs.neighbours.put_in.Tie as tie
+use Rattle.adjacency.proofs.put_in.Statement.{statement}
+use Rattle.adjacency.proofs.put_in.Tie as tie
 
 abbrev Inv-loop : tie.InvT-loop
 Inv-loop w r₀ c₀ i₀ r c i = (i ≤ 8) × Putting i c r (putIn w r₀)

@@ -18,8 +18,8 @@ use Rattle.model.specs.Tree.{count, endA, endB, edgeLabelAt}
 use Rattle.model.specs.Graph.{joins, joinedBy, neighbours, eight, edgeBefore, edgeLabel, neighbourTable, labelOfPlace, edgeLabelTable}
 use Rattle.trees.specs.Accepted.{Ends}
 use Rattle.trees.specs.Neighbours.{joined-says, adjacent-low}
-use Rattle.formats.specs.Insertion.{putIn, put-below}
+use Rattle.adjacency.specs.Insertion.{putIn, put-below}
 use Rattle.formats.specs.TreeItems.{set-tab}
 
 -- ---- neighbours: each vertex's row by a test of pairs
 

@@ -1,7 +1,7 @@
 -- `label_of` meets its contract. Assumes nothing.
 use borrow.Author.Tests.{eq-eqb, ne-eqb}
-use Rattle.formats.proofs.neighbours.label_of.Statement.{statement}
-use Rattle.formats.proofs.neighbours.label_of.Tie as tie
+use Rattle.adjacency.proofs.label_of.Statement.{statement}
+use Rattle.adjacency.proofs.label_of.Tie as tie
 
 returns : tie.Need-returns
 returns c = rw (eq-eqb _ _ (c .if1 .taken))

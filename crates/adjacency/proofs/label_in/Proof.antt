@@ -8,8 +8,8 @@ use lib.ListN.{getD, replicate, drop}
 use Rattle.foundations.specs.Lists.{tab, fill-step, fill-done}
 use borrow.Author.Needs.{needs}
 use native.Mathlib.Omega.{arith}
-use Rattle.formats.proofs.neighbours.label_in.Statement.{statement}
-use Rattle.formats.proofs.neighbours.label_in.Tie as tie
+use Rattle.adjacency.proofs.label_in.Statement.{statement}
+use Rattle.adjacency.proofs.label_in.Tie as tie
 
 abbrev Inv-loop : tie.InvT-loop
 Inv-loop w l labels names r₀ i₀ r i = (i ≤ 8) × (r ≡ tab (λ k. cond (eqb w (getD names k 0)) l (getD labels k 0)) i ++ drop i (replicate 8 0))

@@ -2,11 +2,11 @@
 use Prim.Native.Nat.{_-_, _≤_, _<_}
 use mathlib.Core.Path.{_≡_, _∙_}
 use Rattle.trees.specs.Accepted.{Ends}
-use Rattle.formats.specs.NeighbourSteps.{labelRows, labelSoFar, no-labels, labelled-rows, labels-end}
+use Rattle.adjacency.specs.NeighbourSteps.{labelRows, labelSoFar, no-labels, labelled-rows, labels-end}
 use borrow.Author.Needs.{needs}
 use native.Mathlib.Omega.{arith}
-use Rattle.formats.proofs.neighbours.edge_label_table.Statement.{statement}
-use Rattle.formats.proofs.neighbours.edge_label_table.Tie as tie
+use Rattle.adjacency.proofs.edge_label_table.Statement.{statement}
+use Rattle.adjacency.proofs.edge_label_table.Tie as tie
 
 abbrev Inv-loop : tie.InvT-loop
 Inv-loop t₀ s neighbours n j₀ t j = (j ≤ n - 1) × (t ≡ labelRows neighbours (λ v w. labelSoFar s n v w j))

@@ -3,11 +3,11 @@ use Prim.Native.Nat.{_-_, _≤_, _<_}
 use mathlib.Core.Path.{_≡_}
 use Rattle.model.specs.Graph.{joinedBy}
 use Rattle.trees.specs.Accepted.{Ends}
-use Rattle.formats.specs.NeighbourSteps.{rows, no-rows, joined-rows, rows-end}
+use Rattle.adjacency.specs.NeighbourSteps.{rows, no-rows, joined-rows, rows-end}
 use borrow.Author.Needs.{needs}
 use native.Mathlib.Omega.{arith}
-use Rattle.formats.proofs.neighbours.neighbour_table.Statement.{statement}
-use Rattle.formats.proofs.neighbours.neighbour_table.Tie as tie
+use Rattle.adjacency.proofs.neighbour_table.Statement.{statement}
+use Rattle.adjacency.proofs.neighbour_table.Tie as tie
 
 abbrev Inv-loop : tie.InvT-loop
 Inv-loop s n t₀ j₀ t j = (j ≤ n - 1) × (t ≡ rows (λ v w. joinedBy s n v w j) n)

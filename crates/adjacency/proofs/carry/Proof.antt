@@ -1,10 +1,10 @@
 -- `carry` meets its contract. Assumes nothing.
-use Rattle.formats.specs.Insertion.{carried-same, carried-other}
+use Rattle.adjacency.specs.Insertion.{carried-same, carried-other}
 use Prim.Native.Nat.{max}
 use mathlib.Core.Path.{_≡_, sym, _∙_}
 use native.Mathlib.Omega.{arith}
-use Rattle.formats.proofs.neighbours.carry.Statement.{statement}
-use Rattle.formats.proofs.neighbours.carry.Tie as tie
+use Rattle.adjacency.proofs.carry.Statement.{statement}
+use Rattle.adjacency.proofs.carry.Tie as tie
 
 returns : tie.Need-returns
 returns c = sym (carried-same _ _ (c .if1 .taken))
