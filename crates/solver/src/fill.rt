@@ -108,9 +108,10 @@ fn fill_row(
         let t = locate(plan, m, first + i, v);
         let q = first + i - offset(plan, t);
         let c = lesser(count - i, degree(plan, t) + 1 - q);
+        let at = from + i;
         let part = Run {
             first: q,
-            from: from + i,
+            from: at,
             count: c,
         };
         fill_pair(g, table, recorded, found, plan, work, u, t, part);

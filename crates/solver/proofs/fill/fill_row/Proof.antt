@@ -116,8 +116,8 @@ sub-lesser-2 c =
 lesser-requires : tie.Need-lesser-requires Inv-loop μ-loop
 lesser-requires c κs = search needs
 
-add-t20 : tie.Need-add-t20 Inv-loop μ-loop
-add-t20 c =
+add-at : tie.Need-add-at Inv-loop μ-loop
+add-at c =
     let at-locate = c .before .before .before in
     let at-in = at-locate .before in
     let l = at-in .before in
@@ -210,7 +210,7 @@ fill-row-spec =
     add-lesser
     sub-lesser-2
     lesser-requires
-    add-t20
+    add-at
     fill-pair-requires
     add-i
     loop-less
