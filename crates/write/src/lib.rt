@@ -39,7 +39,7 @@ fn solve_and_write(
     requires { ⌜ certificateLength (now recorded) (now found) ≤ length (now certificate) ⌝ }
     ensures { λ _. ⌜ Left (now (table .entry)) (now (recorded .entry)) (now (found .entry)) (now (work .entry)) (now (certificate .entry)) (now (work .exit)) (now (certificate .exit)) ⌝ }
 {
-    let mut mapping = [255u8; 64];
+    let mut mapping = [Limits::NONE; Limits::ROWS];
     let w = solve_and_read(table, recorded, found, plan, work, &mut mapping);
     let n = vertex_count(recorded);
     let m = vertex_count(found);
