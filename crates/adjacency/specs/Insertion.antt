@@ -1,4 +1,4 @@
--- A row of eight places in which numbers stand ascending, each once, then 255: putting one number in, whatever the order in which they come. Assumes nothing.
+-- A row of places in which numbers stand ascending, each once, then `noVertex`: putting one number in, whatever the order in which they come. Assumes nothing.
 use mathlib.Core.Path.{_≡_, refl, sym, ap, _∙_}
 use mathlib.Core.Logic.{⊎-elim, _≢_}
 use mathlib.Core.Bool.{Bool, true, false, _||_, cond}
@@ -6,7 +6,7 @@ use mathlib.Core.List.{List, [], _∷_, _++_, append-nil, append-assoc}
 use Prim.Native.Nat.{ℕ, zero, suc, _+_, _-_, _≤_, _<_, min, max}
 use native.Mathlib.Omega.{arith}
 use native.Mathlib.Numerals.{add-one}
-use lib.ListN.{length, getD, set, take, drop, replicate, length-set, drop-of-length-le}
+use lib.ListN.{length, getD, set, take, drop, replicate, length-set, drop-of-length-le, take-append-drop}
 use lib.Seq.{take-nil, take-all, drop-cons, take-suc-set, drop-set-lt}
 use lib.Dec.{eqb}
 use borrow.Author.Tests.{eq-eqb, ne-eqb}
@@ -15,21 +15,21 @@ use Rattle.foundations.specs.Lists.{below, below-ext, places}
 use Rattle.foundations.specs.Members.{Below}
 use Rattle.model.specs.Limits.{degreeLimit, noVertex}
 
--- what is carried on from a place that held x: the greater of the two, and 255, nothing, where they are the same
+-- what is carried on from a place that held x: the greater of the two, and `noVertex`, nothing, where they are the same
 unfoldable pub carried : ℕ → ℕ → ℕ
 carried x c = cond (eqb x c) noVertex (max x c)
 
--- c put into a row: at each place the lesser stays, and what is carried past the last place falls out
+-- c put into a row: at each place the lesser stays, until nothing is carried; what is carried past the last place falls out
 unfoldable pub putIn : ℕ → List ℕ → List ℕ
 putIn c [] = []
-putIn c (x ∷ l) = min x c ∷ putIn (carried x c) l
+putIn c (x ∷ l) = cond (eqb c noVertex) (x ∷ l) (min x c ∷ putIn (carried x c) l)
 
 -- the same into a list of any length
 unfoldable pub insert : ℕ → List ℕ → List ℕ
 insert c [] = c ∷ []
 insert c (x ∷ l) = cond (eqb x c) (x ∷ l) (min x c ∷ insert (max x c) l)
 
--- ---- in eight places
+-- ---- in a row of places
 
 pub carried-same : (x c : ℕ) → x ≡ c → carried x c ≡ noVertex
 unfolding carried
@@ -47,11 +47,14 @@ insert-other : (x c : ℕ) (l : List ℕ) → x ≢ c → insert c (x ∷ l) ≡
 unfolding insert
 insert-other x c l e = rw (ne-eqb x c e)
 
--- nothing carried changes nothing
-free : (k : ℕ) → putIn noVertex (replicate k noVertex) ≡ replicate k noVertex
-unfolding putIn carried
-free zero = refl
-free (suc k) = rw (free k)
+put-nothing : (l : List ℕ) → putIn noVertex l ≡ l
+unfolding putIn
+put-nothing [] = refl
+put-nothing (x ∷ l) = refl
+
+put-some : (c x : ℕ) (l : List ℕ) → c ≢ noVertex → putIn c (x ∷ l) ≡ min x c ∷ putIn (carried x c) l
+unfolding putIn
+put-some c x l n = rw (ne-eqb c noVertex n)
 
 no-places : (l : List ℕ) → places 0 noVertex l ≡ []
 unfolding places
@@ -65,17 +68,6 @@ places-cons : (k x : ℕ) (l : List ℕ) → places (suc k) noVertex (x ∷ l) �
 unfolding places
 places-cons k x l = let e : suc k - length (x ∷ l) ≡ k - length l = omega arith in ap (λ q. x ∷ (take k l ++ replicate q noVertex)) e
 
-none-in : (k : ℕ) (l : List ℕ) → Below noVertex l → putIn noVertex (places k noVertex l) ≡ places k noVertex l
-unfolding putIn
-none-in zero l b = rw (no-places l)
-none-in (suc k) [] b = rw (all-free (suc k)) (free (suc k))
-none-in (suc k) (x ∷ l) b =
-    let h : x < noVertex = b .0 in
-    let m : min x noVertex ≡ x = omega arith in
-    let g : max x noVertex ≡ noVertex = omega arith in
-    let c : carried x noVertex ≡ noVertex = carried-other x noVertex (λ e. omega arith) ∙ g in
-    rw (places-cons k x l, m, c, none-in k l (b .1))
-
 pub in-places : (k c : ℕ) (l : List ℕ) → c < noVertex → Below noVertex l → putIn c (places k noVertex l) ≡ places k noVertex (insert c l)
 unfolding putIn insert
 in-places zero c l h b = rw (no-places l, no-places (insert c l))
@@ -83,11 +75,14 @@ in-places (suc k) c [] h b =
     let m : min noVertex c ≡ c = omega arith in
     let g : max noVertex c ≡ noVertex = omega arith in
     let d : carried noVertex c ≡ noVertex = carried-other noVertex c (λ e. omega arith) ∙ g in
-    rw (all-free (suc k), places-cons k c [], all-free k, m, d, free k)
+    rw (all-free (suc k), places-cons k c [], all-free k, put-some c noVertex (replicate k noVertex) (λ e. omega arith), m, d, put-nothing (replicate k noVertex))
 in-places (suc k) c (x ∷ l) h b = ⊎-elim
-    (λ e. let m : min x c ≡ x = omega arith in rw (places-cons k x l, carried-same x c e, insert-same x c l e, m, places-cons k x l, none-in k l (b .1)))
-    (λ e. rw (places-cons k x l, carried-other x c e, insert-other x c l e, places-cons k (min x c) (insert (max x c) l)) (ap (λ r. min x c ∷ r) (in-places k (max x c) l (let a : x < noVertex = b .0 in omega arith) (b .1))))
+    (λ e. let m : min x c ≡ x = omega arith in rw (places-cons k x l, some, carried-same x c e, insert-same x c l e, m, places-cons k x l, put-nothing (places k noVertex l)))
+    (λ e. rw (places-cons k x l, some, carried-other x c e, insert-other x c l e, places-cons k (min x c) (insert (max x c) l)) (ap (λ r. min x c ∷ r) (in-places k (max x c) l (let a : x < noVertex = b .0 in omega arith) (b .1))))
     (same? x c)
+  where
+    some : putIn c (x ∷ places k noVertex l) ≡ min x c ∷ putIn (carried x c) (places k noVertex l)
+    some = put-some c x (places k noVertex l) (λ e. omega arith)
 
 -- ---- a number more that passes the test
 
@@ -173,16 +168,19 @@ pub record Putting (i c : ℕ) (r goal : List ℕ) : Type 0 where
 pub putting-none : (c : ℕ) (r : List ℕ) → length r ≡ degreeLimit → Putting 0 c r (putIn c r)
 putting-none c r h = record { size = h; so-far = refl }
 
-pub putting-more : (i c low high : ℕ) (r goal : List ℕ) → i < degreeLimit → low ≡ min (getD r i 0) c → high ≡ carried (getD r i 0) c → Putting i c r goal → Putting (i + 1) high (set r i low) goal
-unfolding putIn
-putting-more i c low high r goal l el eh h =
+pub putting-more : (i c low high : ℕ) (r goal : List ℕ) → i < degreeLimit → c ≢ noVertex → low ≡ min (getD r i 0) c → high ≡ carried (getD r i 0) c → Putting i c r goal → Putting (i + 1) high (set r i low) goal
+putting-more i c low high r goal l n el eh h =
     let b : i < length r = omega (arith, h .size) in
     record {
       size = length-set r i low ∙ h .size;
       so-far =
           rw (add-one, take-suc-set r i low b, drop-set-lt (suc i) r i low (omega arith), append-assoc, el, eh)
-          (sym (ap (λ q. take i r ++ putIn c q) (drop-cons r i 0 b)) ∙ h .so-far);
+          (ap (λ q. take i r ++ q) (sym (put-some c (getD r i 0) (drop (suc i) r) n)) ∙ sym (ap (λ q. take i r ++ putIn c q) (drop-cons r i 0 b)) ∙ h .so-far);
     }
+
+-- nothing is carried to them
+pub putting-nothing : (i c : ℕ) (r goal : List ℕ) → c ≡ noVertex → Putting i c r goal → r ≡ goal
+putting-nothing i c r goal e h = sym (take-append-drop i r) ∙ ap (λ q. take i r ++ q) (sym (put-nothing (drop i r))) ∙ ap (λ q. take i r ++ putIn q (drop i r)) (sym e) ∙ h .so-far
 
 pub putting-all : (i c : ℕ) (r goal : List ℕ) → i ≡ degreeLimit → Putting i c r goal → r ≡ goal
 unfolding putIn

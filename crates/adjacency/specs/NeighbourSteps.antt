@@ -15,7 +15,7 @@ use Rattle.foundations.specs.Lists.{below, below-ext, places, tab, tab-ext, get
 use Rattle.foundations.specs.Members.{getD-mem, mem-below}
 use Rattle.model.specs.Limits.{vertexLimit, degreeLimit, noVertex}
 use Rattle.model.specs.Tree.{count, endA, endB, edgeLabelAt}
-use Rattle.model.specs.Graph.{joins, joinedBy, neighbours, eight, edgeBefore, edgeLabel, neighbourTable, labelOfPlace, edgeLabelTable}
+use Rattle.model.specs.Graph.{joins, joinedBy, neighbours, inPlaces, edgeBefore, edgeLabel, neighbourTable, labelOfPlace, edgeLabelTable}
 use Rattle.trees.specs.Accepted.{Ends}
 use Rattle.trees.specs.Neighbours.{joined-says, adjacent-low}
 use Rattle.adjacency.specs.Insertion.{putIn, put-below}
@@ -24,14 +24,14 @@ use Rattle.formats.specs.TreeItems.{set-tab}
 -- ---- neighbours: each vertex's row by a test of pairs
 
 abbrev pub rows : (ℕ → ℕ → Bool) → ℕ → List (List ℕ)
-rows p n = tab (λ v. eight (below (p v) n)) vertexLimit
+rows p n = tab (λ v. inPlaces (below (p v) n)) vertexLimit
 
 -- b put into the row of a
 rows-more : (p : ℕ → ℕ → Bool) (n a b : ℕ) (t : List (List ℕ)) → a < vertexLimit → b < n → n ≤ vertexLimit → t ≡ rows p n → set t a (putIn b (getD t a [])) ≡ rows (λ v w. p v w || (eqb a v && eqb b w)) n
 rows-more p n a b t la lb few e =
-    rw e (set-tab (λ v. eight (below (p v) n)) (λ v. eight (below (λ w. p v w || (eqb a v && eqb b w)) n)) vertexLimit a (putIn b (getD (rows p n) a [])) [] la
-    (ap (putIn b) (getD-tab (λ v. eight (below (p v) n)) vertexLimit a [] la) ∙ put-below (p a) b n lb (omega arith) ∙ ap eight (below-ext (λ w. p a w || eqb b w) (λ w. p a w || (eqb a a && eqb b w)) n (λ w l. rw (eqb-same a))))
-    (λ v l ne. ap eight (below-ext (p v) (λ w. p v w || (eqb a v && eqb b w)) n (λ w lw. rw (ne-eqb a v (λ q. ne (sym q))) (sym (or-false (p v w)))))))
+    rw e (set-tab (λ v. inPlaces (below (p v) n)) (λ v. inPlaces (below (λ w. p v w || (eqb a v && eqb b w)) n)) vertexLimit a (putIn b (getD (rows p n) a [])) [] la
+    (ap (putIn b) (getD-tab (λ v. inPlaces (below (p v) n)) vertexLimit a [] la) ∙ put-below (p a) b n lb (omega arith) ∙ ap inPlaces (below-ext (λ w. p a w || eqb b w) (λ w. p a w || (eqb a a && eqb b w)) n (λ w l. rw (eqb-same a))))
+    (λ v l ne. ap inPlaces (below-ext (p v) (λ w. p v w || (eqb a v && eqb b w)) n (λ w lw. rw (ne-eqb a v (λ q. ne (sym q))) (sym (or-false (p v w)))))))
 
 pub joined-rows : (s : List ℕ) (n j a b : ℕ) (t : List (List ℕ)) (x y : List ℕ) → a < n → b < n → n ≤ vertexLimit → a ≡ endA s n j → b ≡ endB s n j → t ≡ rows (λ v w. joinedBy s n v w j) n
     → x ≡ putIn b (getD t a []) → y ≡ putIn a (getD (set t a x) b []) → set (set t a x) b y ≡ rows (λ v w. joinedBy s n v w (j + 1)) n
@@ -39,8 +39,8 @@ unfolding joinedBy joins
 joined-rows s n j a b t x y la lb few ea eb h hx hy =
     let one : set t a x ≡ rows (λ v w. joinedBy s n v w j || (eqb a v && eqb b w)) n = rw hx (rows-more (λ v w. joinedBy s n v w j) n a b t (omega arith) lb few h) in
     rw hy (rows-more (λ v w. joinedBy s n v w j || (eqb a v && eqb b w)) n b a (set t a x) (omega arith) la few one)
-    ∙ tab-ext (λ v. eight (below (λ w. (joinedBy s n v w j || (eqb a v && eqb b w)) || (eqb b v && eqb a w)) n)) (λ v. eight (below (λ w. joinedBy s n v w (j + 1)) n)) vertexLimit
-    (λ v l. ap eight (below-ext (λ w. (joinedBy s n v w j || (eqb a v && eqb b w)) || (eqb b v && eqb a w)) (λ w. joinedBy s n v w (j + 1)) n
+    ∙ tab-ext (λ v. inPlaces (below (λ w. (joinedBy s n v w j || (eqb a v && eqb b w)) || (eqb b v && eqb a w)) n)) (λ v. inPlaces (below (λ w. joinedBy s n v w (j + 1)) n)) vertexLimit
+    (λ v l. ap inPlaces (below-ext (λ w. (joinedBy s n v w j || (eqb a v && eqb b w)) || (eqb b v && eqb a w)) (λ w. joinedBy s n v w (j + 1)) n
     (λ w lw. or-assoc (joinedBy s n v w j) (eqb a v && eqb b w) (eqb b v && eqb a w) ∙ rw (add-one, ea, eb))))
 
 below-none : (k : ℕ) → below (λ w. false) k ≡ []
@@ -124,17 +124,17 @@ label-apart s n v w (suc k) h = step (joinedBy s n v w k) (joins (endA s n k) (e
     step false false r e q = r e
 
 -- what stands in a place passes the test, or is 255
-place-says : (p : ℕ → Bool) (n i : ℕ) → i < degreeLimit → (getD (eight (below p n)) i 0 ≡ noVertex) ⊎ (p (getD (eight (below p n)) i 0) ≡ true)
+place-says : (p : ℕ → Bool) (n i : ℕ) → i < degreeLimit → (getD (inPlaces (below p n)) i 0 ≡ noVertex) ⊎ (p (getD (inPlaces (below p n)) i 0) ≡ true)
 unfolding places
 place-says p n i h = ⊎-elim
     (λ l.
     let long : length (take degreeLimit (below p n)) ≡ _ = length-take degreeLimit (below p n) in
-    let e : getD (eight (below p n)) i 0 ≡ getD (below p n) i 0 = List·getD-append (take degreeLimit (below p n)) (replicate (degreeLimit - length (below p n)) noVertex) 0 i (omega arith) ∙ getD-take degreeLimit (below p n) i 0 h in
+    let e : getD (inPlaces (below p n)) i 0 ≡ getD (below p n) i 0 = List·getD-append (take degreeLimit (below p n)) (replicate (degreeLimit - length (below p n)) noVertex) 0 i (omega arith) ∙ getD-take degreeLimit (below p n) i 0 h in
     inr (ap p e ∙ mem-below p n (getD (below p n) i 0) (getD-mem (below p n) i l) .1))
     (λ l.
     let long : length (take degreeLimit (below p n)) ≡ length (below p n) = length-take degreeLimit (below p n) ∙ omega arith in
     let e : length (take degreeLimit (below p n)) + (i - length (below p n)) ≡ i = omega arith in
-    inl (ap (λ (k : ℕ). getD (eight (below p n)) k 0) (sym e)
+    inl (ap (λ (k : ℕ). getD (inPlaces (below p n)) k 0) (sym e)
     ∙ getD-append-add (take degreeLimit (below p n)) (replicate (degreeLimit - length (below p n)) noVertex) (i - length (below p n)) 0
     ∙ getD-replicate (degreeLimit - length (below p n)) (i - length (below p n)) noVertex 0 (omega arith)))
     (less? i (length (below p n)))
@@ -142,11 +142,11 @@ place-says p n i h = ⊎-elim
 pub labels-end : (s : List ℕ) (n j : ℕ) (N t : List (List ℕ)) → Ends s (count s) → N ≡ neighbourTable s → n ≡ count s → j ≡ n - 1 → t ≡ labelRows N (λ v w. labelSoFar s n v w j) → t ≡ edgeLabelTable s
 unfolding edgeLabelTable neighbourTable neighbours
 labels-end s n j N t ends eN en ej h = h ∙ ap (λ (k : ℕ). labelRows N (λ v w. labelSoFar s n v w k)) ej ∙ ap (λ (k : ℕ). labelRows N (λ v w. labelSoFar s k v w (k - 1))) en
-    ∙ tab-ext (λ v. tab (λ i. labelSoFar s (count s) v (getD (getD N v []) i 0) (count s - 1)) degreeLimit) (λ v. tab (λ i. labelOfPlace s v (getD (eight (neighbours s v)) i 0)) degreeLimit) vertexLimit
-    (λ v lv. tab-ext (λ i. labelSoFar s (count s) v (getD (getD N v []) i 0) (count s - 1)) (λ i. labelOfPlace s v (getD (eight (neighbours s v)) i 0)) degreeLimit (λ i li. ap (λ (z : List ℕ). labelSoFar s (count s) v (getD z i 0) (count s - 1)) (row v lv) ∙ at v (getD (eight (neighbours s v)) i 0) (place-says (λ w. joinedBy s (count s) v w (count s - 1)) (count s) i li)))
+    ∙ tab-ext (λ v. tab (λ i. labelSoFar s (count s) v (getD (getD N v []) i 0) (count s - 1)) degreeLimit) (λ v. tab (λ i. labelOfPlace s v (getD (inPlaces (neighbours s v)) i 0)) degreeLimit) vertexLimit
+    (λ v lv. tab-ext (λ i. labelSoFar s (count s) v (getD (getD N v []) i 0) (count s - 1)) (λ i. labelOfPlace s v (getD (inPlaces (neighbours s v)) i 0)) degreeLimit (λ i li. ap (λ (z : List ℕ). labelSoFar s (count s) v (getD z i 0) (count s - 1)) (row v lv) ∙ at v (getD (inPlaces (neighbours s v)) i 0) (place-says (λ w. joinedBy s (count s) v w (count s - 1)) (count s) i li)))
   where
-    row : (v : ℕ) → v < vertexLimit → getD N v [] ≡ eight (neighbours s v)
-    row v lv = ap (λ (z : List (List ℕ)). getD z v []) eN ∙ getD-tab (λ x. eight (neighbours s x)) vertexLimit v [] lv
+    row : (v : ℕ) → v < vertexLimit → getD N v [] ≡ inPlaces (neighbours s v)
+    row v lv = ap (λ (z : List (List ℕ)). getD z v []) eN ∙ getD-tab (λ x. inPlaces (neighbours s x)) vertexLimit v [] lv
 
     at : (v w : ℕ) → (w ≡ noVertex) ⊎ (joinedBy s (count s) v w (count s - 1) ≡ true) → labelSoFar s (count s) v w (count s - 1) ≡ labelOfPlace s v w
     at v w (inl e) = unfold labelOfPlace in rw (eq-eqb w noVertex e) (label-apart s (count s) v w (count s - 1) (is-false (joinedBy s (count s) v w (count s - 1)) (λ q. let a = adjacent-low s ends v w (joined-says s (count s) v w (count s - 1) q) in omega (arith, a .1, ends .few))))

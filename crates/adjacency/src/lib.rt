@@ -1,8 +1,11 @@
-//! Neighbours as eight places for each of 64 vertices, and in the same places the labels of the edges to them.
+//! Neighbours as a row of places for each vertex, and in the same places the labels of the edges to them.
 use formats::tree::edge_label_at;
 use formats::tree::end_a;
 use formats::tree::end_b;
 use formats::tree::vertex_count;
+use model::Limits;
+use model::PlaceTable;
+use model::Row;
 ghost use Prim.Native.Nat.{min};
 ghost use lib.Dec.{eqb};
 ghost use lib.ListN.{getD, replicate};
@@ -27,19 +30,22 @@ fn carry(x: u8, c: u8) -> u8
     ensures { λ r. ⌜ r ≡ carried x c ⌝ }
 {
     if x == c {
-        return model::Limits::NONE;
+        return Limits::NONE;
     }
     if x <= c { c } else { x }
 }
 
-// An ascending row with w in its place, unless it has w; what is carried past the last place falls out.
-fn put_in(row: [u8; 8], w: u8) -> [u8; 8]
+// An ascending row with w in its place, unless it has w; what is carried past the last place falls out. Where nothing is carried, the rest stays.
+fn put_in(row: Row, w: u8) -> Row
     ensures { λ r. ⌜ r ≡ putIn w row ⌝ }
 {
     let mut r = row;
     let mut c = w;
     let mut i: usize = 0;
-    while i < model::Limits::PLACES {
+    while i < Limits::PLACES {
+        if c == Limits::NONE {
+            return r;
+        }
         let x = r[i];
         let low = stays(x, c);
         let high = carry(x, c);
@@ -51,12 +57,12 @@ fn put_in(row: [u8; 8], w: u8) -> [u8; 8]
 }
 
 // The neighbours of every vertex of an accepted tree: each edge puts either end into the row of the other.
-pub fn neighbour_table(s: &[u8]) -> [[u8; 8]; 64]
+pub fn neighbour_table(s: &[u8]) -> PlaceTable
     requires { ⌜ Ends (now s) (count (now s)) ⌝ }
     ensures { λ r. ⌜ r ≡ neighbourTable (now (s .entry)) ⌝ }
 {
     let n = vertex_count(s);
-    let mut t = [[model::Limits::NONE; 8]; 64];
+    let mut t = [[Limits::NONE; Limits::PLACES]; Limits::ROWS];
     let mut j: usize = 0;
     while j + 1 < n {
         let a = end_a(s, n, j);
@@ -78,12 +84,12 @@ fn label_of(x: u8, w: u8, l: u8, label: u8) -> u8
 }
 
 // The labels in a row's places, with l in the place of w.
-fn label_in(labels: [u8; 8], names: [u8; 8], w: u8, l: u8) -> [u8; 8]
+fn label_in(labels: Row, names: Row, w: u8, l: u8) -> Row
     ensures { λ r. ⌜ r ≡ tab (λ i. cond (eqb w (getD names i 0)) l (getD labels i 0)) degreeLimit ⌝ }
 {
-    let mut r = [0u8; 8];
+    let mut r = [0u8; Limits::PLACES];
     let mut i: usize = 0;
-    while i < model::Limits::PLACES {
+    while i < Limits::PLACES {
         let x = label_of(names[i], w, l, labels[i]);
         r[i] = x;
         i += 1;
@@ -92,7 +98,7 @@ fn label_in(labels: [u8; 8], names: [u8; 8], w: u8, l: u8) -> [u8; 8]
 }
 
 // The labels of the edges to every vertex's neighbours, in the neighbours' places, into a table of free places.
-pub fn edge_label_table(t: &mut [[u8; 8]; 64], s: &[u8], neighbours: &[[u8; 8]; 64])
+pub fn edge_label_table(t: &mut PlaceTable, s: &[u8], neighbours: &PlaceTable)
     requires { ⌜ now t ≡ replicate vertexLimit (replicate degreeLimit noVertex) ⌝ }
     requires { ⌜ Ends (now s) (count (now s)) ⌝ }
     requires { ⌜ now neighbours ≡ neighbourTable (now s) ⌝ }

@@ -9,6 +9,7 @@ use lib.Dec.{T, ltb, eqb}
 use borrow.Author.Tests.{lt-ltb, le-ltb, eq-eqb, ne-eqb}
 use Rattle.foundations.specs.Tests.{and-false, same?, less?}
 use Rattle.foundations.specs.Sums.{sum, sum-ext, sum-add, sum-zero, sum-point}
+use Rattle.model.specs.Limits.{degreeLimit}
 use Rattle.assignment.specs.Matching.{gainLimit, gained, weight, Injective, minus, bestColumn, best, all, Has, Feasible}
 use Rattle.assignment.specs.State.{State, Solved, Partner, Cleared}
 
@@ -200,13 +201,13 @@ pub heaviest : {k l : ℕ} {g : ℕ → ℕ → ℕ} {y z m : ℕ → ℕ} → S
 heaviest {k} {l} {g} {y} {z} A m′ inj = omega (arith, weak-duality k l g y z m′ (record { covers = A .feasible }) inj, A .equal)
 
 -- the pairs handed on have the matching's weight, and no two have the same column
-module _ {k l : ℕ} {g : ℕ → ℕ → ℕ} {m p : ℕ → ℕ} (l8 : l ≤ 8) (P : (i : ℕ) → i < k → Partner l g m i (p i)) where
+module _ {k l : ℕ} {g : ℕ → ℕ → ℕ} {m p : ℕ → ℕ} (l-few : l ≤ degreeLimit) (P : (i : ℕ) → i < k → Partner l g m i (p i)) where
   pub partners-weight : weight k l g p ≡ weight k l g m
   unfolding weight gained
   partners-weight = sum-ext k (gained l g p) (gained l g m) (λ i hi. ⊎-elim
       (λ lt. ap (λ (x : ℕ). cond (ltb x l) (g i x) 0) (P i hi .pair lt .0))
       (λ le. rw (le-ltb (p i) l (omega arith)) (sym (P i hi .none le)))
-      (less? (p i) 8))
+      (less? (p i) degreeLimit))
 
   pub partners-injective : Injective k l m → Injective k l p
   partners-injective inj i j hi hj lt e =
@@ -322,7 +323,7 @@ attained (suc k) l g free =
 -- ---- without a column
 
 -- with column c's gains at 0 the greatest weight is that over the other columns
-module _ {k l c : ℕ} {g h : ℕ → ℕ → ℕ} (l8 : l ≤ 8) (D : Cleared k c g h) where
+module _ {k l c : ℕ} {g h : ℕ → ℕ → ℕ} (l-few : l ≤ degreeLimit) (D : Cleared k c g h) where
   -- a matching that leaves c alone weighs the same
   alone : (m : ℕ → ℕ) → ((i : ℕ) → i < k → m i < l → m i ≢ c) → weight k l g m ≡ weight k l h m
   unfolding weight gained

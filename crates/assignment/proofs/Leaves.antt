@@ -12,6 +12,7 @@ use borrow.Author.Tests.{eq-eqb, ne-eqb, lt-ltb, le-ltb}
 use Rattle.foundations.specs.Tests.{same?, less?}
 use Rattle.foundations.specs.Sums.{sum, sum-more}
 use Rattle.foundations.specs.Changed.{changed-none, changed-more}
+use Rattle.model.specs.Limits.{degreeLimit}
 use Rattle.assignment.specs.Matching.{at}
 use Rattle.assignment.specs.Loops.{far, lessOf, whoOf, openOf, OwnersOf, Nearest, Looked, First}
 
@@ -58,8 +59,8 @@ nearest-more s v o {j} {b} {d} {b′} {d′} {C} N h eo eb ed = ⊎-elim less mo
 
 -- ---- distances
 
-pub first-none : (F : ℕ → ℕ) (s : List ℕ) → First 0 F s s 8 far
-first-none F s = record { distances = changed-none _ s; nearest = nearest-none _ _ 8 }
+pub first-none : (F : ℕ → ℕ) (s : List ℕ) → First 0 F s s degreeLimit far
+first-none F s = record { distances = changed-none _ s; nearest = nearest-none _ _ degreeLimit }
 
 pub first-more : {F : ℕ → ℕ} {s₀ s : List ℕ} (v : ℕ) {j b d b′ d′ : ℕ} → First j F s₀ s b d → j < length s₀ → v ≡ F j → b′ ≡ whoOf v d j b → d′ ≡ lessOf v d → First (j + 1) F s₀ (set s j v) b′ d′
 first-more {F} {s₀} {s} v {j} P h ev eb ed = record {
@@ -70,8 +71,8 @@ first-more {F} {s₀} {s} v {j} P h ev eb ed = record {
 pub first-end : {F : ℕ → ℕ} {s₀ s : List ℕ} {j l b d : ℕ} → First j F s₀ s b d → l ≤ j → j ≤ l → First l F s₀ s b d
 first-end {F} {s₀} {s} {j} {l} {b} {d} P p q = subst (λ (x : ℕ). First x F s₀ s b d) (let e : j ≡ l = omega arith in e) P
 
-pub looked-none : (t : ℕ) (F C : ℕ → ℕ) (s f : List ℕ) → Looked 0 t F C s f s f 8 far
-looked-none t F C s f = record { distances = changed-none _ s; sources = changed-none _ f; nearest = nearest-none _ _ 8 }
+pub looked-none : (t : ℕ) (F C : ℕ → ℕ) (s f : List ℕ) → Looked 0 t F C s f s f degreeLimit far
+looked-none t F C s f = record { distances = changed-none _ s; sources = changed-none _ f; nearest = nearest-none _ _ degreeLimit }
 
 pub looked-more : {t : ℕ} {F C : ℕ → ℕ} {s₀ f₀ s f : List ℕ} (v u o : ℕ) {j b d b′ d′ : ℕ} → Looked j t F C s₀ f₀ s f b d → j < length s₀ → j < length f₀ → v ≡ lessOf (F j) (at s j) → u ≡ whoOf (F j) (at s j) t (at f j) → o ≡ openOf (C j) v → b′ ≡ whoOf o d j b → d′ ≡ lessOf o d → Looked (j + 1) t F C s₀ f₀ (set s j v) (set f j u) b′ d′
 looked-more {t} {F} {C} {s₀} {f₀} {s} {f} v u o {j} P h h′ ev eu eo eb ed = record {
@@ -85,11 +86,11 @@ looked-end {t} {F} {C} {s₀} {f₀} {s} {f} {j} {l} {b} {d} P p q = subst (λ (
 
 -- ---- owners
 
-pub owners-none : (m : List ℕ) → OwnersOf 0 m (replicate 8 8)
-owners-none m = record { has = λ c h lt. absurd (omega (arith, getD-replicate {A = ℕ} 8 c 8 0 h)); none = λ c h le x lt. absurd (not-suc-le-zero lt); size = refl }
+pub owners-none : (m : List ℕ) → OwnersOf 0 m (replicate degreeLimit degreeLimit)
+owners-none m = record { has = λ c h lt. absurd (omega (arith, getD-replicate {A = ℕ} degreeLimit c degreeLimit 0 h)); none = λ c h le x lt. absurd (not-suc-le-zero lt); size = refl }
 
 -- row i has column c
-pub owners-yes : {i c v : ℕ} {m own : List ℕ} → OwnersOf i m own → i < 8 → c < 8 → at m i ≡ c → v ≡ i → OwnersOf (i + 1) m (set own c v)
+pub owners-yes : {i c v : ℕ} {m own : List ℕ} → OwnersOf i m own → i < degreeLimit → c < degreeLimit → at m i ≡ c → v ≡ i → OwnersOf (i + 1) m (set own c v)
 owners-yes {i} {c} {v} {m} {own} P hi hc e ev = record {
   has = λ x hx lt. ⊎-elim
       (λ q. let w : at (set own c v) x ≡ i = ap (at (set own c v)) q ∙ here ∙ ev in subst (λ (o : ℕ). (o < i + 1) × (at m o ≡ x)) (sym w) (omega arith, e ∙ sym q))
@@ -107,7 +108,7 @@ owners-yes {i} {c} {v} {m} {own} P hi hc e ev = record {
     here = getD-set-same own c v 0 (omega (arith, P .size))
 
 -- row i has no column
-pub owners-no : {i : ℕ} {m own : List ℕ} → OwnersOf i m own → 8 ≤ at m i → OwnersOf (i + 1) m own
+pub owners-no : {i : ℕ} {m own : List ℕ} → OwnersOf i m own → degreeLimit ≤ at m i → OwnersOf (i + 1) m own
 owners-no {i} {m} {own} P le = record {
   has = λ x hx lt. let o = P .has x hx lt in (omega (arith, o .0), o .1);
   none = λ x hx h. below-more (λ (y : ℕ). at m y ≢ x) i (P .none x hx h) (λ q. omega arith);

@@ -12,6 +12,7 @@ use lib.Seq.{getD-set-same, getD-set-other}
 use borrow.Author.Count.{below-more}
 use borrow.Author.Tests.{eq-eqb, ne-eqb, lt-ltb, le-ltb, ltb-true}
 use Rattle.foundations.specs.Tests.{same?, less?, not-says}
+use Rattle.model.specs.Limits.{degreeLimit, pairLimit}
 use Rattle.assignment.specs.Matching.{at, cell, gainLimit, all, gained}
 use Rattle.assignment.specs.State.{Bytes, State, Sized, Lengths, Pending, Joined, Solved, Answer, Cleared, Rest, Partner, also}
 use Rattle.assignment.specs.Loops.{rowEnd, OwnersOf, First}
@@ -32,7 +33,7 @@ pending-put {k} {l} {r} {g} y z m v p = record {
 
 -- ---- a search's start
 
-pub rooted : {k l r : ℕ} {g : ℕ → ℕ → ℕ} {y z m own dist₀ dist : List ℕ} {b d : ℕ} → Sized k l g → r < k → Lengths y z m → Bytes l m → Pending k l r g (at y) (at z) (at m) → length dist₀ ≡ 8 → OwnersOf k m own → First l (λ x. gainLimit + at z x - g r x) dist₀ dist b d → Rooted k l r g (set y r gainLimit) z m own dist b d
+pub rooted : {k l r : ℕ} {g : ℕ → ℕ → ℕ} {y z m own dist₀ dist : List ℕ} {b d : ℕ} → Sized k l g → r < k → Lengths y z m → Bytes l m → Pending k l r g (at y) (at z) (at m) → length dist₀ ≡ degreeLimit → OwnersOf k m own → First l (λ x. gainLimit + at z x - g r x) dist₀ dist b d → Rooted k l r g (set y r gainLimit) z m own dist b d
 rooted {k} {l} {r} {g} {y} {z} {m} {own} {dist₀} {dist} S hr L B p ld O P = record {
   sized = S;
   below = hr;
@@ -64,8 +65,8 @@ module _ {k l r : ℕ} {g : ℕ → ℕ → ℕ} {y z m own dist : List ℕ} {b 
   zero-out : (j : ℕ) → j < l → _≢_ {A = ℕ} 0 1
   zero-out j hj e = omega arith
 
-  r8 : r < length y
-  r8 = omega (arith, X .below, X .sized .rows, L .rows)
+  r-low : r < length y
+  r-low = omega (arith, X .below, X .sized .rows, L .rows)
 
   start : (p : Pending k l r g (at y) (at z) (at m)) → Run k l r g (p .finished) 0 (at (set y r gainLimit)) (at z) (at m) (only r) (λ j. 0) (at dist) (λ j. r) (λ i. 0) (λ t. at m)
   unfolding pending-put
@@ -74,7 +75,7 @@ module _ {k l r : ℕ} {g : ℕ → ℕ → ℕ} {y z m own dist : List ℕ} {b 
   -- y with gainLimit - e for r is what a search that ends at e writes
   row-ends : (e : ℕ) (i : ℕ) → at (set y r (gainLimit - e)) i ≡ rowEnd e (only r i) 0 (at (set y r gainLimit) i)
   row-ends e i = ⊎-elim
-      (λ q. ap (at (set y r (gainLimit - e))) q ∙ getD-set-same y r (gainLimit - e) 0 r8
+      (λ q. ap (at (set y r (gainLimit - e))) q ∙ getD-set-same y r (gainLimit - e) 0 r-low
       ∙ sym (ap (λ (x : ℕ). rowEnd e (only r x) 0 (at (set y r gainLimit) x)) q ∙ ap (λ (x : ℕ). rowEnd e x 0 (at (set y r gainLimit) r)) T-here ∙ ap (λ (x : ℕ). rowEnd e 1 0 x) (X .root) ∙ let w : gainLimit + 0 - e ≡ gainLimit - e = omega arith in w))
       (λ n. getD-set-other y r i (gainLimit - e) 0 n ∙ sym (getD-set-other y r i gainLimit 0 n) ∙ sym (ap (λ (x : ℕ). rowEnd e x 0 (at (set y r gainLimit) i)) (T-other i n)))
       (same? i r)
@@ -102,11 +103,11 @@ module _ {k l r : ℕ} {g : ℕ → ℕ → ℕ} {y z m own dist : List ℕ} {b 
     nearest : (b < l) × _≢_ {A = ℕ} 0 1 × (at dist b ≡ d)
     nearest = X .nearest .found (omega arith)
 
-    pub near-eight : b < 8
-    near-eight = omega (arith, nearest .0, X .sized .columns)
+    pub near-low : b < degreeLimit
+    near-low = omega (arith, nearest .0, X .sized .columns)
 
     -- the nearest column is free
-    pub end-free : 8 ≤ at own b → Ended k l r g y z m (set y r (gainLimit - d)) z (set m r b)
+    pub end-free : degreeLimit ≤ at own b → Ended k l r g y z m (set y r (gainLimit - d)) z (set m r b)
     end-free free = record {
       sizes = record { rows = length-set y r (gainLimit - d) ∙ L .rows; columns = L .columns; matching = length-set m r b ∙ L .matching };
       bytes = bytes-set r b (X .bytes) (omega (arith, X .below, X .sized .rows, L .matching)) (inl (nearest .0));
@@ -114,7 +115,7 @@ module _ {k l r : ℕ} {g : ℕ → ℕ → ℕ} {y z m own dist : List ℕ} {b 
         state = λ p.
             run-end-column (X .below) (p .pending)
             (advanced d (omega arith) (λ j hj. X .nearest .low j hj (zero-out j hj)) p)
-            (λ i hi. row-ends d i) (λ j hj. refl) b (nearest .0) (nearest .1) (nearest .2) (X .owners .none b near-eight free)
+            (λ i hi. row-ends d i) (λ j hj. refl) b (nearest .0) (nearest .1) (nearest .2) (X .owners .none b near-low free)
             (record { here = getD-set-same m r b 0 (omega (arith, X .below, X .sized .rows, L .matching)); other = λ j hj n. getD-set-other m r j b 0 n });
       };
     }
@@ -130,19 +131,19 @@ end-explored y z m v E = record { sizes = E .sizes; bytes = E .bytes; joined = r
 abbrev pub before : ℕ → ℕ → Bool
 before r i = ltb i r
 
-pub state-none : {k l : ℕ} (g : ℕ → ℕ → ℕ) (y : List ℕ) → k ≤ 8 → l ≤ 8 → State k l g (before 0) (at y) (at (replicate 8 0)) (at (replicate 8 8))
-state-none {k} {l} g y k8 l8 = record {
+pub state-none : {k l : ℕ} (g : ℕ → ℕ → ℕ) (y : List ℕ) → k ≤ degreeLimit → l ≤ degreeLimit → State k l g (before 0) (at y) (at (replicate degreeLimit 0)) (at (replicate degreeLimit degreeLimit))
+state-none {k} {l} g y k-few l-few = record {
   feasible = λ i j hi f. absurd (not-suc-le-zero (ltb-true i 0 f));
-  tight = λ i hi hl. absurd (omega (arith, eight i hi));
-  injective = λ i j hi hj hl e. absurd (omega (arith, eight i hi));
-  columns = λ j hj. inl (getD-replicate {A = ℕ} 8 j 0 0 (omega arith));
+  tight = λ i hi hl. absurd (omega (arith, no-column i hi));
+  injective = λ i j hi hj hl e. absurd (omega (arith, no-column i hi));
+  columns = λ j hj. inl (getD-replicate {A = ℕ} degreeLimit j 0 0 (omega arith));
   rows = λ i hi f. absurd (not-suc-le-zero (ltb-true i 0 f));
-  pending = λ i hi f. omega (arith, eight i hi);
+  pending = λ i hi f. omega (arith, no-column i hi);
   limit = λ i hi f. absurd (not-suc-le-zero (ltb-true i 0 f));
 }
   where
-    eight : (i : ℕ) → i < k → at (replicate 8 8) i ≡ 8
-    eight i hi = getD-replicate {A = ℕ} 8 i 8 0 (omega arith)
+    no-column : (i : ℕ) → i < k → at (replicate degreeLimit degreeLimit) i ≡ degreeLimit
+    no-column i hi = getD-replicate {A = ℕ} degreeLimit i degreeLimit 0 (omega arith)
 
 pub state-pending : {k l r : ℕ} {g : ℕ → ℕ → ℕ} {y z m : ℕ → ℕ} → State k l g (before r) y z m → Pending k l r g y z m
 state-pending {r = r} G = record { finished = before r; state = G; pending = le-ltb r r (omega arith) }
@@ -172,12 +173,12 @@ state-solved {r = r} S G le = solved G (λ i hi. lt-ltb i r (omega arith)) (S .g
 pub cleared-none : (c : ℕ) (g : ℕ → ℕ → ℕ) → Cleared 0 c g g
 cleared-none c g = record { here = λ i h. absurd (not-suc-le-zero h); other = λ i j h n. refl }
 
-pub cleared-more : {i c : ℕ} (g h : List ℕ) → Cleared i c (cell g) (cell h) → i < 8 → c < 8 → length h ≡ 64 → Cleared (i + 1) c (cell g) (cell (set h (i * 8 + c) 0))
+pub cleared-more : {i c : ℕ} (g h : List ℕ) → Cleared i c (cell g) (cell h) → i < degreeLimit → c < degreeLimit → length h ≡ pairLimit → Cleared (i + 1) c (cell g) (cell (set h (i * degreeLimit + c) 0))
 cleared-more {i} {c} g h D hi hc e = record {
-  here = below-more (λ (x : ℕ). cell (set h (i * 8 + c) 0) x c ≡ 0) i
-      (λ x lt. getD-set-other h (i * 8 + c) (x * 8 + c) 0 0 (λ q. omega arith) ∙ D .here x lt)
-      (getD-set-same h (i * 8 + c) 0 0 (omega arith));
-  other = λ x j hj n. getD-set-other h (i * 8 + c) (x * 8 + j) 0 0 (λ q. n (let w : j ≡ c = omega arith in w)) ∙ D .other x j hj n;
+  here = below-more (λ (x : ℕ). cell (set h (i * degreeLimit + c) 0) x c ≡ 0) i
+      (λ x lt. getD-set-other h (i * degreeLimit + c) (x * degreeLimit + c) 0 0 (λ q. omega arith) ∙ D .here x lt)
+      (getD-set-same h (i * degreeLimit + c) 0 0 (omega arith));
+  other = λ x j hj n. getD-set-other h (i * degreeLimit + c) (x * degreeLimit + j) 0 0 (λ q. n (let w : j ≡ c = omega arith in w)) ∙ D .other x j hj n;
 }
 
 pub cleared-end : {i k c : ℕ} (g h : List ℕ) → Cleared i c (cell g) (cell h) → k ≤ i → Cleared k c (cell g) (cell h)
@@ -187,14 +188,14 @@ abbrev but : ℕ → ℕ → Bool
 but r i = not (eqb i r)
 
 module _ {k l c : ℕ} (g h : List ℕ) {y z m : List ℕ} (S : Sized k l (cell g)) (hc : c < l) (D : Cleared k c (cell g) (cell h)) (A : Answer k l (cell g) y z m) where
-  l8 : l ≤ 8
-  l8 = S .columns
+  l-few : l ≤ degreeLimit
+  l-few = S .columns
 
   pub sized-cleared : Sized k l (cell h)
-  sized-cleared = record { rows = S .rows; columns = S .columns; gains = λ i j hi hj. ⊎-elim (λ q. subst (λ (x : ℕ). cell h i x ≤ gainLimit) (sym q) (omega (arith, D .here i hi))) (λ n. omega (arith, D .other i j (omega (arith, l8)) n, S .gains i j hi hj)) (same? j c) }
+  sized-cleared = record { rows = S .rows; columns = S .columns; gains = λ i j hi hj. ⊎-elim (λ q. subst (λ (x : ℕ). cell h i x ≤ gainLimit) (sym q) (omega (arith, D .here i hi))) (λ n. omega (arith, D .other i j (omega (arith, l-few)) n, S .gains i j hi hj)) (same? j c) }
 
   z-here : at (set z c 0) c ≡ 0
-  z-here = getD-set-same z c 0 0 (omega (arith, A .sizes .columns, l8))
+  z-here = getD-set-same z c 0 0 (omega (arith, A .sizes .columns, l-few))
 
   z-other : (j : ℕ) → j ≢ c → at (set z c 0) j ≡ at z j
   z-other j n = getD-set-other z c j 0 0 n
@@ -202,14 +203,14 @@ module _ {k l c : ℕ} (g h : List ℕ) {y z m : List ℕ} (S : Sized k l (cell 
   covered : (i j : ℕ) → i < k → j < l → cell h i j ≤ at y i + at (set z c 0) j
   covered i j hi hj = ⊎-elim
       (λ q. subst (λ (x : ℕ). cell h i x ≤ at y i + at (set z c 0) x) (sym q) (omega (arith, D .here i hi)))
-      (λ n. omega (arith, D .other i j (omega (arith, l8)) n, z-other j n, A .solved .feasible i j hi hj))
+      (λ n. omega (arith, D .other i j (omega (arith, l-few)) n, z-other j n, A .solved .feasible i j hi hj))
       (same? j c)
 
   tight : (i : ℕ) → i < k → at m i < l → at m i ≢ c → cell h i (at m i) ≡ at y i + at (set z c 0) (at m i)
-  tight i hi lt n = omega (arith, D .other i (at m i) (omega (arith, l8)) n, z-other (at m i) n, A .solved .tight i hi lt)
+  tight i hi lt n = omega (arith, D .other i (at m i) (omega (arith, l-few)) n, z-other (at m i) n, A .solved .tight i hi lt)
 
   -- no row has the column: all stays
-  pub rest-free : length h ≡ 64 → ((i : ℕ) → i < k → at m i ≢ c) → Rest k l c g h y (set z c 0) m
+  pub rest-free : length h ≡ pairLimit → ((i : ℕ) → i < k → at m i ≢ c) → Rest k l c g h y (set z c 0) m
   rest-free lh free = record {
     long = lh;
     cleared = D;
@@ -219,7 +220,7 @@ module _ {k l c : ℕ} (g h : List ℕ) {y z m : List ℕ} (S : Sized k l (cell 
       bytes = A .bytes;
       solved = rest;
     };
-    greatest = rest .greatest ∙ rest-best l8 D;
+    greatest = rest .greatest ∙ rest-best l-few D;
   }
     where
       rest : Solved k l (cell h) (at y) (at (set z c 0)) (at m)
@@ -244,25 +245,25 @@ module _ {k l c : ℕ} (g h : List ℕ) {y z m : List ℕ} (S : Sized k l (cell 
     others-r : (i : ℕ) → but r i ≡ false → i ≡ r
     others-r i f = ⊎-elim (λ q. q) (λ n. absurd (true≢false (sym (others-yes i n) ∙ f))) (same? i r)
 
-    m-here : at (set m r 8) r ≡ 8
-    m-here = getD-set-same m r 8 0 (omega (arith, A .sizes .matching, S .rows))
+    m-here : at (set m r degreeLimit) r ≡ degreeLimit
+    m-here = getD-set-same m r degreeLimit 0 (omega (arith, A .sizes .matching, S .rows))
 
-    m-other : (i : ℕ) → i ≢ r → at (set m r 8) i ≡ at m i
-    m-other i n = getD-set-other m r i 8 0 n
+    m-other : (i : ℕ) → i ≢ r → at (set m r degreeLimit) i ≡ at m i
+    m-other i n = getD-set-other m r i degreeLimit 0 n
 
-    not-r : (i : ℕ) → at (set m r 8) i < l → i ≢ r
-    not-r i lt q = omega (arith, ap (at (set m r 8)) q, m-here, l8)
+    not-r : (i : ℕ) → at (set m r degreeLimit) i < l → i ≢ r
+    not-r i lt q = omega (arith, ap (at (set m r degreeLimit)) q, m-here, l-few)
 
     not-c : (i : ℕ) → i < k → i ≢ r → at m i < l → at m i ≢ c
     not-c i hi n lt e = n (A .solved .injective i r hi hr lt (e ∙ sym mr))
 
-    pub rest-lengths : Lengths y (set z c 0) (set m r 8)
-    rest-lengths = record { rows = A .sizes .rows; columns = length-set z c 0 ∙ A .sizes .columns; matching = length-set m r 8 ∙ A .sizes .matching }
+    pub rest-lengths : Lengths y (set z c 0) (set m r degreeLimit)
+    rest-lengths = record { rows = A .sizes .rows; columns = length-set z c 0 ∙ A .sizes .columns; matching = length-set m r degreeLimit ∙ A .sizes .matching }
 
-    pub rest-bytes : Bytes l (set m r 8)
-    rest-bytes = bytes-set r 8 (A .bytes) (omega (arith, A .sizes .matching, S .rows)) (inr refl)
+    pub rest-bytes : Bytes l (set m r degreeLimit)
+    rest-bytes = bytes-set r degreeLimit (A .bytes) (omega (arith, A .sizes .matching, S .rows)) (inr refl)
 
-    pub rest-pending : Pending k l r (cell h) (at y) (at (set z c 0)) (at (set m r 8))
+    pub rest-pending : Pending k l r (cell h) (at y) (at (set z c 0)) (at (set m r degreeLimit))
     rest-pending = record {
       finished = but r;
       state = record {
@@ -279,26 +280,26 @@ module _ {k l c : ℕ} (g h : List ℕ) {y z m : List ℕ} (S : Sized k l (cell 
             (A .solved .columns j hj))
             (same? j c);
         rows = λ i hi f. ⊎-elim inl (λ lt. inr (omega (arith, m-other i (others-no i f)))) (A .solved .rows i hi);
-        pending = λ i hi f. omega (arith, ap (at (set m r 8)) (others-r i f), m-here, l8);
+        pending = λ i hi f. omega (arith, ap (at (set m r degreeLimit)) (others-r i f), m-here, l-few);
         limit = λ i hi f. A .solved .row-limit i hi;
       };
       pending = rw (eq-eqb r r refl);
     }
 
-    pub rest-searched : {y′ z′ m′ : List ℕ} → length h ≡ 64 → Ended k l r (cell h) y (set z c 0) (set m r 8) y′ z′ m′ → Rest k l c g h y′ z′ m′
+    pub rest-searched : {y′ z′ m′ : List ℕ} → length h ≡ pairLimit → Ended k l r (cell h) y (set z c 0) (set m r degreeLimit) y′ z′ m′ → Rest k l c g h y′ z′ m′
     unfolding rest-pending
-    rest-searched {y′} {z′} {m′} lh E = record { long = lh; cleared = D; sized = sized-cleared; answer = record { sizes = E .sizes; bytes = E .bytes; solved = rest }; greatest = rest .greatest ∙ rest-best l8 D }
+    rest-searched {y′} {z′} {m′} lh E = record { long = lh; cleared = D; sized = sized-cleared; answer = record { sizes = E .sizes; bytes = E .bytes; solved = rest }; greatest = rest .greatest ∙ rest-best l-few D }
       where
         rest : Solved k l (cell h) (at y′) (at z′) (at m′)
         rest = solved (E .joined .state rest-pending) (λ i hi. ⊎-elim (λ q. also-same r (but r) i q) (λ n. also-other r (but r) i n ∙ others-yes i n) (same? i r)) (sized-cleared .gains)
 
 -- ---- what a row has in the answer
 
-pub partner-free : (l i : ℕ) (g : ℕ → ℕ → ℕ) (m : ℕ → ℕ) → l ≤ m i → Partner l g m i 8
+pub partner-free : (l i : ℕ) (g : ℕ → ℕ → ℕ) (m : ℕ → ℕ) → l ≤ m i → Partner l g m i degreeLimit
 unfolding gained
 partner-free l i g m le = record { range = omega arith; pair = λ h. absurd (omega arith); none = λ h. rw (le-ltb (m i) l le) }
 
-pub partner-zero : (l i c : ℕ) (g : ℕ → ℕ → ℕ) (m : ℕ → ℕ) → c ≡ m i → g i c ≡ 0 → Partner l g m i 8
+pub partner-zero : (l i c : ℕ) (g : ℕ → ℕ → ℕ) (m : ℕ → ℕ) → c ≡ m i → g i c ≡ 0 → Partner l g m i degreeLimit
 unfolding gained
 partner-zero l i c g m e z = record {
   range = omega arith;
@@ -306,8 +307,8 @@ partner-zero l i c g m e z = record {
   none = λ h. ⊎-elim (λ lt. rw (lt-ltb (m i) l lt) (ap (g i) (sym e) ∙ z)) (λ le. rw (le-ltb (m i) l le)) (less? (m i) l);
 }
 
-pub partner-pair : (l i c : ℕ) (g : ℕ → ℕ → ℕ) (m : ℕ → ℕ) → l ≤ 8 → c ≡ m i → c < l → g i c ≢ 0 → Partner l g m i (m i)
-partner-pair l i c g m l8 e lt n = record {
+pub partner-pair : (l i c : ℕ) (g : ℕ → ℕ → ℕ) (m : ℕ → ℕ) → l ≤ degreeLimit → c ≡ m i → c < l → g i c ≢ 0 → Partner l g m i (m i)
+partner-pair l i c g m l-few e lt n = record {
   range = omega arith;
   pair = λ h. (refl, omega arith, subst (λ (x : ℕ). 0 < g i x) e (omega (arith, n)));
   none = λ h. absurd (omega arith);

@@ -7,6 +7,7 @@ use native.Mathlib.Omega.{arith}
 use lib.Dec.{eqb}
 use borrow.Author.Tests.{eq-eqb, ne-eqb, lt-ltb, le-ltb}
 use Rattle.foundations.specs.Tests.{same?, less?}
+use Rattle.model.specs.Limits.{degreeLimit}
 use Rattle.assignment.specs.Matching.{gainLimit}
 use Rattle.assignment.specs.State.{State, also}
 use Rattle.assignment.specs.Loops.{lessOf, whoOf, rowEnd, columnEnd}
@@ -69,18 +70,18 @@ module _ {k l r : ℕ} {g : ℕ → ℕ → ℕ} {f : ℕ → Bool} {y z m T C W
       }
 
   -- row o and its column b, at distance D, join the tree
-  pub run-grow : {D b o : ℕ} → Run k l r g f D y z m T C W F J A → b < l → C b ≢ 1 → W b ≡ D → o < k → m o ≡ b → l ≤ 8 →
+  pub run-grow : {D b o : ℕ} → Run k l r g f D y z m T C W F J A → b < l → C b ≢ 1 → W b ≡ D → o < k → m o ≡ b → l ≤ degreeLimit →
       {T′ C′ W′ F′ J′ a₁ a₂ : ℕ → ℕ} {A′ : ℕ → ℕ → ℕ} → Put k T o 1 T′ → Put l C b 1 C′ → Put k J o D J′ →
       ((j : ℕ) → j < l → W′ j ≡ lessOf (y o + D + z j - g o j) (W j)) → ((j : ℕ) → j < l → F′ j ≡ whoOf (y o + D + z j - g o j) (W j) o (F j)) →
-      Put k (A (F b)) (F b) b a₁ → Put k a₁ o 8 a₂ → ((i : ℕ) → i < k → A′ o i ≡ a₂ i) → ((s i : ℕ) → s < k → s ≢ o → i < k → A′ s i ≡ A s i) →
+      Put k (A (F b)) (F b) b a₁ → Put k a₁ o degreeLimit a₂ → ((i : ℕ) → i < k → A′ o i ≡ a₂ i) → ((s i : ℕ) → s < k → s ≢ o → i < k → A′ s i ≡ A s i) →
       Run k l r g f D y z m T′ C′ W′ F′ J′ A′
-  run-grow {D} {b} {o} R hb out wb ho mo l8 {T′} {C′} {W′} {F′} {J′} {a₁} {a₂} {A′} PT PC PJ w′ f′ P₁ P₂ At As = record {
+  run-grow {D} {b} {o} R hb out wb ho mo l-few {T′} {C′} {W′} {F′} {J′} {a₁} {a₂} {A′} PT PC PJ w′ f′ P₁ P₂ At As = record {
     Y = R .Y;
     Z = R .Z;
     S = S′;
     start = R .start;
     state = R .state;
-    tree = grow hr wait (R .state) (R .tree) b hb out s0 o ho mo PT PC seen P₁ 8 l8 P₂ At As;
+    tree = grow hr wait (R .state) (R .tree) b hb out s0 o ho mo PT PC seen P₁ degreeLimit l-few P₂ At As;
     root = R .root;
     now = R .now;
     yin = λ i hi t. ⊎-elim

@@ -11,6 +11,7 @@ use lib.Seq.{getD-set-same, getD-set-other}
 use borrow.Author.Tests.{eq-eqb, ne-eqb, lt-ltb, le-ltb}
 use Rattle.foundations.specs.Tests.{same?, less?}
 use Rattle.foundations.specs.Sums.{sum-point}
+use Rattle.model.specs.Limits.{degreeLimit}
 use Rattle.assignment.specs.Matching.{at, entry, gainLimit}
 use Rattle.assignment.specs.State.{Bytes, Pending}
 use Rattle.assignment.specs.Loops.{lessOf, whoOf, Looked, Room, Settled}
@@ -40,60 +41,60 @@ outside-less l b C C′ hb n P =
     none : f′ b ≡ 0
     none = simp (eq-eqb (C′ b) 1 (P .here))
 
-at-all : (v j : ℕ) → j < 8 → at (replicate 8 v) j ≡ v
-at-all v j h = getD-replicate 8 j v 0 h
+at-all : (v j : ℕ) → j < degreeLimit → at (replicate degreeLimit v) j ≡ v
+at-all v j h = getD-replicate degreeLimit j v 0 h
 
 -- ---- a matching's bytes
 
-pub bytes-none : (l : ℕ) → Bytes l (replicate 8 8)
-bytes-none l = record { range = λ x h. inr (at-all 8 x h) }
+pub bytes-none : (l : ℕ) → Bytes l (replicate degreeLimit degreeLimit)
+bytes-none l = record { range = λ x h. inr (at-all degreeLimit x h) }
 
-pub bytes-set : {l : ℕ} {m : List ℕ} (c v : ℕ) → Bytes l m → c < length m → (v < l) ⊎ (v ≡ 8) → Bytes l (set m c v)
+pub bytes-set : {l : ℕ} {m : List ℕ} (c v : ℕ) → Bytes l m → c < length m → (v < l) ⊎ (v ≡ degreeLimit) → Bytes l (set m c v)
 bytes-set {l} {m} c v B h e = record {
   range = λ x hx. ⊎-elim
-      (λ q. subst (λ (a : ℕ). (a < l) ⊎ (a ≡ 8)) (sym (ap (at (set m c v)) q ∙ getD-set-same m c v 0 h)) e)
-      (λ n. subst (λ (a : ℕ). (a < l) ⊎ (a ≡ 8)) (sym (getD-set-other m c x v 0 n)) (B .range x hx))
+      (λ q. subst (λ (a : ℕ). (a < l) ⊎ (a ≡ degreeLimit)) (sym (ap (at (set m c v)) q ∙ getD-set-same m c v 0 h)) e)
+      (λ n. subst (λ (a : ℕ). (a < l) ⊎ (a ≡ degreeLimit)) (sym (getD-set-other m c x v 0 n)) (B .range x hx))
       (same? x c);
 }
 
 -- ---- the first turn
 
-marks-one : (r i : ℕ) → r < 8 → i < 8 → i ≢ r → at (set (replicate 8 0) r 1) i ≢ 1
-marks-one r i hr hi n e = omega (arith, e, getD-set-other {A = ℕ} (replicate 8 0) r i 1 0 n, at-all 0 i hi)
+marks-one : (r i : ℕ) → r < degreeLimit → i < degreeLimit → i ≢ r → at (set (replicate degreeLimit 0) r 1) i ≢ 1
+marks-one r i hr hi n e = omega (arith, e, getD-set-other {A = ℕ} (replicate degreeLimit 0) r i 1 0 n, at-all 0 i hi)
 
-mark-here : (r : ℕ) → r < 8 → at (set (replicate 8 0) r 1) r ≡ 1
-mark-here r hr = getD-set-same (replicate 8 0) r 1 0 hr
+mark-here : (r : ℕ) → r < degreeLimit → at (set (replicate degreeLimit 0) r 1) r ≡ 1
+mark-here r hr = getD-set-same (replicate degreeLimit 0) r 1 0 hr
 
-alt-here : (r : ℕ) (m : List ℕ) → r < 8 → getD (set (replicate 8 (replicate {A = ℕ} 8 8)) r m) r [] ≡ m
-alt-here r m hr = getD-set-same (replicate 8 (replicate 8 8)) r m [] hr
+alt-here : (r : ℕ) (m : List ℕ) → r < degreeLimit → getD (set (replicate degreeLimit (replicate {A = ℕ} degreeLimit degreeLimit)) r m) r [] ≡ m
+alt-here r m hr = getD-set-same (replicate degreeLimit (replicate degreeLimit degreeLimit)) r m [] hr
 
-alt-long : (r : ℕ) (m : List ℕ) → r < 8 → length m ≡ 8 → (t : ℕ) → t < 8 → length (getD (set (replicate 8 (replicate {A = ℕ} 8 8)) r m) t []) ≡ 8
+alt-long : (r : ℕ) (m : List ℕ) → r < degreeLimit → length m ≡ degreeLimit → (t : ℕ) → t < degreeLimit → length (getD (set (replicate degreeLimit (replicate {A = ℕ} degreeLimit degreeLimit)) r m) t []) ≡ degreeLimit
 alt-long r m hr lm t ht = ⊎-elim
-    (λ q. ap (λ (x : ℕ). length (getD (set (replicate 8 (replicate {A = ℕ} 8 8)) r m) x [])) q ∙ ap length (alt-here r m hr) ∙ lm)
-    (λ n. ap length (getD-set-other (replicate 8 (replicate 8 8)) r t m [] n ∙ getD-replicate 8 t (replicate 8 8) [] ht))
+    (λ q. ap (λ (x : ℕ). length (getD (set (replicate degreeLimit (replicate {A = ℕ} degreeLimit degreeLimit)) r m) x [])) q ∙ ap length (alt-here r m hr) ∙ lm)
+    (λ n. ap length (getD-set-other (replicate degreeLimit (replicate degreeLimit degreeLimit)) r t m [] n ∙ getD-replicate degreeLimit t (replicate degreeLimit degreeLimit) [] ht))
     (same? t r)
 
-alt-bytes : (l r : ℕ) (m : List ℕ) → r < 8 → Bytes l m → (t : ℕ) → t < 8 → Bytes l (getD (set (replicate 8 (replicate {A = ℕ} 8 8)) r m) t [])
+alt-bytes : (l r : ℕ) (m : List ℕ) → r < degreeLimit → Bytes l m → (t : ℕ) → t < degreeLimit → Bytes l (getD (set (replicate degreeLimit (replicate {A = ℕ} degreeLimit degreeLimit)) r m) t [])
 alt-bytes l r m hr B t ht =
     ⊎-elim
-    (λ q. subst (λ (a : List ℕ). Bytes l a) (sym (ap (λ (x : ℕ). getD (set (replicate 8 (replicate {A = ℕ} 8 8)) r m) x []) q ∙ alt-here r m hr)) B)
-    (λ n. subst (λ (a : List ℕ). Bytes l a) (sym (getD-set-other (replicate 8 (replicate 8 8)) r t m [] n ∙ getD-replicate 8 t (replicate 8 8) [] ht)) (bytes-none l))
+    (λ q. subst (λ (a : List ℕ). Bytes l a) (sym (ap (λ (x : ℕ). getD (set (replicate degreeLimit (replicate {A = ℕ} degreeLimit degreeLimit)) r m) x []) q ∙ alt-here r m hr)) B)
+    (λ n. subst (λ (a : List ℕ). Bytes l a) (sym (getD-set-other (replicate degreeLimit (replicate degreeLimit degreeLimit)) r t m [] n ∙ getD-replicate degreeLimit t (replicate degreeLimit degreeLimit) [] ht)) (bytes-none l))
     (same? t r)
 
 pub turn-start : {k l r : ℕ} {g : ℕ → ℕ → ℕ} {y z m own dist : List ℕ} {b d : ℕ} (t : ℕ) → t ≡ r → Rooted k l r g y z m own dist b d →
-    Turn k l r g y z m y z m own (set (replicate 8 0) r 1) (replicate 8 0) dist (replicate 8 t) (replicate 8 0) (set (replicate 8 (replicate 8 8)) r m) r gainLimit b d
+    Turn k l r g y z m y z m own (set (replicate degreeLimit 0) r 1) (replicate degreeLimit 0) dist (replicate degreeLimit t) (replicate degreeLimit 0) (set (replicate degreeLimit (replicate degreeLimit degreeLimit)) r m) r gainLimit b d
 turn-start {k} {l} {r} {g} {y} {z} {m} {own} {dist} {b} {d} t et X = record {
   sizes = X .sizes;
-  arrays = record { rows = length-set (replicate 8 0) r 1; columns = refl; distances = X .long; sources = refl; joins = refl; alternatives = length-set (replicate 8 (replicate 8 8)) r m; each = alt-long r m r8 (X .sizes .matching) };
-  bytes = alt-bytes l r m r8 (X .bytes);
+  arrays = record { rows = length-set (replicate degreeLimit 0) r 1; columns = refl; distances = X .long; sources = refl; joins = refl; alternatives = length-set (replicate degreeLimit (replicate degreeLimit degreeLimit)) r m; each = alt-long r m r-low (X .sizes .matching) };
+  bytes = alt-bytes l r m r-low (X .bytes);
   owners = X .owners;
   lowest = record {
     below = X .below;
-    tree = mark-here r r8;
-    equal = omega (arith, X .root, at-all 0 r r8);
+    tree = mark-here r r-low;
+    equal = omega (arith, X .root, at-all 0 r r-low);
     least = λ i hi e. ⊎-elim
         (λ q. omega (arith, ap (at y) q, X .root))
-        (λ n. absurd (marks-one r i r8 (omega (arith, k8)) n e))
+        (λ n. absurd (marks-one r i r-low (omega (arith, k-few)) n e))
         (same? i r);
     small = omega arith;
   };
@@ -104,18 +105,18 @@ turn-start {k} {l} {r} {g} {y} {z} {m} {own} {dist} {b} {d} t et X = record {
   };
   search = λ p. record {
     level = 0;
-    run = run-start (X .below) (p .pending) (p .state) (X .root) (mark-here r r8) (λ i hi. marks-one r i r8 (omega (arith, k8))) (λ j hj e. omega (arith, e, at-all 0 j (omega (arith, l8)))) (X .distances) (λ j hj. at-all t j (omega (arith, l8)) ∙ et) (at-all 0 r r8) (λ i hi. ap (λ (x : List ℕ). at x i) (alt-here r m r8));
+    run = run-start (X .below) (p .pending) (p .state) (X .root) (mark-here r r-low) (λ i hi. marks-one r i r-low (omega (arith, k-few))) (λ j hj e. omega (arith, e, at-all 0 j (omega (arith, l-few)))) (X .distances) (λ j hj. at-all t j (omega (arith, l-few)) ∙ et) (at-all 0 r r-low) (λ i hi. ap (λ (x : List ℕ). at x i) (alt-here r m r-low));
   };
 }
   where
-    k8 : k ≤ 8
-    k8 = X .sized .rows
+    k-few : k ≤ degreeLimit
+    k-few = X .sized .rows
 
-    l8 : l ≤ 8
-    l8 = X .sized .columns
+    l-few : l ≤ degreeLimit
+    l-few = X .sized .columns
 
-    r8 : r < 8
-    r8 = omega (arith, X .below, k8)
+    r-low : r < degreeLimit
+    r-low = omega (arith, X .below, k-few)
 
 -- ---- a turn
 
@@ -147,14 +148,14 @@ module _ {k l r : ℕ} {g : ℕ → ℕ → ℕ} {y₀ z₀ m₀ y z m own row c
   pub room-row : low ≤ d → Room k l low row col dist join y z
   room-row le = room low (level≤low (P .pending)) (omega arith)
 
-  pub a-eight : a < 8
-  a-eight = omega (arith, X .lowest .below, P .sized .rows)
+  pub a-low : a < degreeLimit
+  a-low = omega (arith, X .lowest .below, P .sized .rows)
 
   -- the search ends where tree row a has dual 0
   pub turn-end-row : low ≤ d → {y′ z′ : List ℕ} → Settled k l low row col dist join y z y′ z′ → Ended k l r g y₀ z₀ m₀ y′ z′ (getD alt a [])
   turn-end-row le {y′} {z′} S = record {
-    sizes = record { rows = S .rows .size ∙ X .sizes .rows; columns = S .columns .size ∙ X .sizes .columns; matching = X .arrays .each a a-eight };
-    bytes = X .bytes a a-eight;
+    sizes = record { rows = S .rows .size ∙ X .sizes .rows; columns = S .columns .size ∙ X .sizes .columns; matching = X .arrays .each a a-low };
+    bytes = X .bytes a a-low;
     joined = record {
       state = λ p.
           run-end-row (P .below) (p .pending)
@@ -168,11 +169,11 @@ module _ {k l r : ℕ} {g : ℕ → ℕ → ℕ} {y₀ z₀ m₀ y z m own row c
     found : (b < l) × (at col b ≢ 1) × (at dist b ≡ d)
     found = X .nearest .found (omega (arith, X .lowest .small))
 
-    pub b-eight : b < 8
-    b-eight = omega (arith, found .0, P .sized .columns)
+    pub b-low : b < degreeLimit
+    b-low = omega (arith, found .0, P .sized .columns)
 
-    pub from-eight : at from b < 8
-    from-eight = omega (arith, X .search (P .pending) .run .tree .from b (found .0) (found .1) .0, P .sized .rows)
+    pub from-low : at from b < degreeLimit
+    from-low = omega (arith, X .search (P .pending) .run .tree .from b (found .0) (found .1) .0, P .sized .rows)
 
     level≤d : (p : Pending k l r g (at y₀) (at z₀) (at m₀)) → X .search p .level ≤ d
     level≤d p = omega (arith, X .search p .run .sout b (found .0) (found .1), found .2)
@@ -185,24 +186,24 @@ module _ {k l r : ℕ} {g : ℕ → ℕ → ℕ} {y₀ z₀ m₀ y z m own row c
 
     -- the alternative of the row that is nearest to b, with b
     alternative : Bytes l (set (getD alt (at from b) []) (at from b) b)
-    alternative = bytes-set (at from b) b (X .bytes (at from b) from-eight) (omega (arith, from-eight, X .arrays .each (at from b) from-eight)) (inl (found .0))
+    alternative = bytes-set (at from b) b (X .bytes (at from b) from-low) (omega (arith, from-low, X .arrays .each (at from b) from-low)) (inl (found .0))
 
     -- the search ends at column b, which no row has
-    pub turn-end-column : 8 ≤ at own b → {y′ z′ : List ℕ} → Settled k l d row col dist join y z y′ z′ → Ended k l r g y₀ z₀ m₀ y′ z′ (set (getD alt (at from b) []) (at from b) b)
+    pub turn-end-column : degreeLimit ≤ at own b → {y′ z′ : List ℕ} → Settled k l d row col dist join y z y′ z′ → Ended k l r g y₀ z₀ m₀ y′ z′ (set (getD alt (at from b) []) (at from b) b)
     turn-end-column free {y′} {z′} S = record {
-      sizes = record { rows = S .rows .size ∙ X .sizes .rows; columns = S .columns .size ∙ X .sizes .columns; matching = length-set (getD alt (at from b) []) (at from b) b ∙ X .arrays .each (at from b) from-eight };
+      sizes = record { rows = S .rows .size ∙ X .sizes .rows; columns = S .columns .size ∙ X .sizes .columns; matching = length-set (getD alt (at from b) []) (at from b) b ∙ X .arrays .each (at from b) from-low };
       bytes = alternative;
       joined = record {
         state = λ p.
-            run-end-column (P .below) (p .pending) (moved p) (S .rows .done) (S .columns .done) b (found .0) (found .1) (found .2) (X .owners .none b b-eight free)
-            (put-set k (getD alt (at from b) []) (at from b) b (omega (arith, from-eight, X .arrays .each (at from b) from-eight)));
+            run-end-column (P .below) (p .pending) (moved p) (S .rows .done) (S .columns .done) b (found .0) (found .1) (found .2) (X .owners .none b b-low free)
+            (put-set k (getD alt (at from b) []) (at from b) b (omega (arith, from-low, X .arrays .each (at from b) from-low)));
       };
     }
 
     -- row o has column b, and both join the tree
-    module _ (o : ℕ) (eo : o ≡ at own b) (lt : o < 8) where
+    module _ (o : ℕ) (eo : o ≡ at own b) (lt : o < degreeLimit) where
       owner : (at own b < k) × (at m (at own b) ≡ b)
-      owner = X .owners .has b b-eight (omega (arith, eo))
+      owner = X .owners .has b b-low (omega (arith, eo))
 
       o<k : o < k
       o<k = omega (arith, owner .0, eo)
@@ -227,7 +228,7 @@ module _ {k l r : ℕ} {g : ℕ → ℕ → ℕ} {y₀ z₀ m₀ y z m own row c
         put-row = rw (J .rows) (put-set k row o 1 (omega (arith, X .arrays .rows)))
 
         put-col : Put l (at col) b 1 (at col′)
-        put-col = rw (J .columns) (put-set l col b 1 (omega (arith, X .arrays .columns, b-eight)))
+        put-col = rw (J .columns) (put-set l col b 1 (omega (arith, X .arrays .columns, b-low)))
 
         put-join : Put k (at join) o d (at join′)
         put-join = rw (J .joins) (put-set k join o d (omega (arith, X .arrays .joins)))
@@ -235,8 +236,8 @@ module _ {k l r : ℕ} {g : ℕ → ℕ → ℕ} {y₀ z₀ m₀ y z m own row c
         pub fewer : outside l (at col′) < outside l (at col)
         fewer = outside-less l b (at col) (at col′) (found .0) (found .1) put-col
 
-        alts : alt′ ≡ set alt o (set (set (getD alt (at from b) []) (at from b) b) o 8)
-        alts = subst (λ (x : ℕ). alt′ ≡ set alt o (set (set (getD alt x []) x b) o 8)) eq (J .alts)
+        alts : alt′ ≡ set alt o (set (set (getD alt (at from b) []) (at from b) b) o degreeLimit)
+        alts = subst (λ (x : ℕ). alt′ ≡ set alt o (set (set (getD alt x []) x b) o degreeLimit)) eq (J .alts)
 
         pub turn-grow : {a′ low′ b′ d′ : ℕ} {dist′ from′ : List ℕ} → a′ ≡ whoOf (at y o + d) low o a → low′ ≡ lessOf (at y o + d) low → Looked l (at own b) (λ x. at y o + d + at z x - g (at own b) x) (at col′) dist from dist′ from′ b′ d′ →
             Turn k l r g y₀ z₀ m₀ y z m own row′ col′ dist′ from′ join′ alt′ a′ low′ b′ d′
@@ -259,8 +260,8 @@ module _ {k l r : ℕ} {g : ℕ → ℕ → ℕ} {y₀ z₀ m₀ y z m own row c
             level = d;
             run = run-grow (P .below) (p .pending) (moved p) (found .0) (found .1) (found .2) o<k mo (P .sized .columns) put-row put-col put-join
                 (L′ .distances .done) (L′ .sources .done)
-                (put-set k (getD alt (at from b) []) (at from b) b (omega (arith, from-eight, X .arrays .each (at from b) from-eight)))
-                (put-set k (set (getD alt (at from b) []) (at from b) b) o 8 (omega (arith, length-set (getD alt (at from b) []) (at from b) b, X .arrays .each (at from b) from-eight)))
+                (put-set k (getD alt (at from b) []) (at from b) b (omega (arith, from-low, X .arrays .each (at from b) from-low)))
+                (put-set k (set (getD alt (at from b) []) (at from b) b) o degreeLimit (omega (arith, length-set (getD alt (at from b) []) (at from b) b, X .arrays .each (at from b) from-low)))
                 (λ i hi. ap (λ (t : List (List ℕ)). entry t o i) alts ∙ ap (λ (t : List ℕ). at t i) (getD-set-same alt o _ [] (omega (arith, X .arrays .alternatives))))
                 (λ s i hs n hi. ap (λ (t : List (List ℕ)). entry t s i) alts ∙ ap (λ (t : List ℕ). at t i) (getD-set-other alt o s _ [] n));
           };
@@ -269,23 +270,23 @@ module _ {k l r : ℕ} {g : ℕ → ℕ → ℕ} {y₀ z₀ m₀ y z m own row c
             L′ : Looked l o (λ x. at y o + d + at z x - g o x) (at col′) dist from dist′ from′ b′ d′
             L′ = subst (λ (t : ℕ). Looked l t (λ x. at y o + d + at z x - g t x) (at col′) dist from dist′ from′ b′ d′) (sym eo) L
 
-            each : (t : ℕ) → t < 8 → length (getD alt′ t []) ≡ 8
+            each : (t : ℕ) → t < degreeLimit → length (getD alt′ t []) ≡ degreeLimit
             each t ht = ap (λ (x : List (List ℕ)). length (getD x t [])) alts ∙ ⊎-elim
-                (λ e. ap (λ (i : ℕ). length (getD (set alt o (set (set (getD alt (at from b) []) (at from b) b) o 8)) i [])) e
-                ∙ ap length (getD-set-same alt o (set (set (getD alt (at from b) []) (at from b) b) o 8) [] (omega (arith, X .arrays .alternatives)))
-                ∙ length-set (set (getD alt (at from b) []) (at from b) b) o 8 ∙ length-set (getD alt (at from b) []) (at from b) b ∙ X .arrays .each (at from b) from-eight)
+                (λ e. ap (λ (i : ℕ). length (getD (set alt o (set (set (getD alt (at from b) []) (at from b) b) o degreeLimit)) i [])) e
+                ∙ ap length (getD-set-same alt o (set (set (getD alt (at from b) []) (at from b) b) o degreeLimit) [] (omega (arith, X .arrays .alternatives)))
+                ∙ length-set (set (getD alt (at from b) []) (at from b) b) o degreeLimit ∙ length-set (getD alt (at from b) []) (at from b) b ∙ X .arrays .each (at from b) from-low)
                 (λ n. ap length (getD-set-other alt o t _ [] n) ∙ X .arrays .each t ht)
                 (same? t o)
 
-            bytes : (t : ℕ) → t < 8 → Bytes l (getD alt′ t [])
+            bytes : (t : ℕ) → t < degreeLimit → Bytes l (getD alt′ t [])
             bytes t ht = subst
                 (λ (x : List (List ℕ)). Bytes l (getD x t []))
                 (sym alts)
                 (⊎-elim
                 (λ e. subst
                 (λ (x : List ℕ). Bytes l x)
-                (sym (ap (λ (i : ℕ). getD (set alt o (set (set (getD alt (at from b) []) (at from b) b) o 8)) i []) e ∙ getD-set-same alt o (set (set (getD alt (at from b) []) (at from b) b) o 8) [] (omega (arith, X .arrays .alternatives))))
-                (bytes-set o 8 alternative (omega (arith, length-set (getD alt (at from b) []) (at from b) b, X .arrays .each (at from b) from-eight)) (inr refl)))
+                (sym (ap (λ (i : ℕ). getD (set alt o (set (set (getD alt (at from b) []) (at from b) b) o degreeLimit)) i []) e ∙ getD-set-same alt o (set (set (getD alt (at from b) []) (at from b) b) o degreeLimit) [] (omega (arith, X .arrays .alternatives))))
+                (bytes-set o degreeLimit alternative (omega (arith, length-set (getD alt (at from b) []) (at from b) b, X .arrays .each (at from b) from-low)) (inr refl)))
                 (λ n. subst (λ (x : List ℕ). Bytes l x) (sym (getD-set-other alt o t _ [] n)) (X .bytes t ht))
                 (same? t o))
 

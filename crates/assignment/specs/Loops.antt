@@ -7,6 +7,7 @@ use Prim.Native.Nat.{ℕ, _+_, _*_, _-_, _≤_, _<_}
 use lib.Dec.{eqb, ltb}
 use lib.ListN.{length}
 use Rattle.foundations.specs.Changed.{Changed}
+use Rattle.model.specs.Limits.{degreeLimit}
 use Rattle.assignment.specs.Matching.{at, gainLimit}
 
 -- greater than every distance
@@ -31,18 +32,18 @@ rowEnd e t j x = cond (eqb t 1) (x + j - e) x
 abbrev pub columnEnd : ℕ → ℕ → ℕ → ℕ → ℕ
 columnEnd e c w x = cond (eqb c 1) (x + e - w) x
 
--- own has the row of each column, or 8, where the first i rows are looked at
+-- own has the row of each column, or `degreeLimit`, where the first i rows are looked at
 pub record OwnersOf (i : ℕ) (m own : List ℕ) : Type 0 where
-  pub has : (c : ℕ) → c < 8 → at own c < 8 → (at own c < i) × (at m (at own c) ≡ c)
-  pub none : (c : ℕ) → c < 8 → 8 ≤ at own c → (x : ℕ) → x < i → at m x ≢ c
-  pub size : length own ≡ 8
+  pub has : (c : ℕ) → c < degreeLimit → at own c < degreeLimit → (at own c < i) × (at m (at own c) ≡ c)
+  pub none : (c : ℕ) → c < degreeLimit → degreeLimit ≤ at own c → (x : ℕ) → x < i → at m x ≢ c
+  pub size : length own ≡ degreeLimit
 
 -- r is the row of column j, or k or more
 pub record Owner (k : ℕ) (m : ℕ → ℕ) (j r : ℕ) : Type 0 where
   pub has : r < k → m r ≡ j
   pub none : k ≤ r → (i : ℕ) → i < k → m i ≢ j
 
--- b is a column below j outside C with the least f, which is d; where there is none b is 8 and d is `far`
+-- b is a column below j outside C with the least f, which is d; where there is none b is `degreeLimit` and d is `far`
 pub record Nearest (j : ℕ) (C f : ℕ → ℕ) (b d : ℕ) : Type 0 where
   pub low : (x : ℕ) → x < j → C x ≢ 1 → d ≤ f x
   pub small : d ≤ far
@@ -61,10 +62,10 @@ pub record First (j : ℕ) (F : ℕ → ℕ) (dist dist′ : List ℕ) (b d : �
 
 -- no dual falls below 0 or passes its range where a search ends at distance e
 pub record Room (k l e : ℕ) (row col dist join y z : List ℕ) : Type 0 where
-  pub few-rows : k ≤ 8
-  pub few-columns : l ≤ 8
-  pub y-long : length y ≡ 8
-  pub z-long : length z ≡ 8
+  pub few-rows : k ≤ degreeLimit
+  pub few-columns : l ≤ degreeLimit
+  pub y-long : length y ≡ degreeLimit
+  pub z-long : length z ≡ degreeLimit
   pub rows : (x : ℕ) → x < k → at row x ≡ 1 → (e ≤ at y x + at join x) × (at y x + at join x ≤ 2 * gainLimit)
   pub columns : (x : ℕ) → x < l → at col x ≡ 1 → (at dist x ≤ at z x + e) × (at z x + e ≤ 2 * gainLimit)
 

@@ -6,15 +6,16 @@ use Prim.Native.Nat.{ℕ, zero, suc, _+_, _*_, _≤_, _<_, max}
 use lib.Dec.{ltb, eqb}
 use lib.ListN.{getD}
 use Rattle.foundations.specs.Sums.{sum}
+use Rattle.model.specs.Limits.{degreeLimit}
 
 -- ---- arrays as functions
 
 abbrev pub at : List ℕ → ℕ → ℕ
 at l i = getD l i 0
 
--- a table of eight by eight as one array, row after row
+-- a table of `degreeLimit` rows and columns as one array, row after row
 abbrev pub cell : List ℕ → ℕ → ℕ → ℕ
-cell g i j = getD g (i * 8 + j) 0
+cell g i j = getD g (i * degreeLimit + j) 0
 
 -- a table as an array of rows
 abbrev pub entry : List (List ℕ) → ℕ → ℕ → ℕ
@@ -26,7 +27,7 @@ entry t i j = getD (getD t i []) j 0
 abbrev pub gainLimit : ℕ
 gainLimit = 281474976710656
 
--- what row i gains: the gain of its column, and 0 where it has none, that is, where m i is l or more (the code writes 8)
+-- what row i gains: the gain of its column, and 0 where it has none, that is, where m i is l or more (the code writes FREE)
 unfoldable pub gained : ℕ → (ℕ → ℕ → ℕ) → (ℕ → ℕ) → ℕ → ℕ
 gained l g m i = cond (ltb (m i) l) (g i (m i)) 0
 

@@ -7,23 +7,24 @@ use Prim.Native.Nat.{ℕ, _+_, _≤_, _<_}
 use lib.Dec.{eqb}
 use lib.ListN.{length}
 use Rattle.foundations.specs.Sums.{sum}
+use Rattle.model.specs.Limits.{degreeLimit, pairLimit}
 use Rattle.assignment.specs.Matching.{at, cell, gainLimit, weight, Injective, Has, best, all, minus, gained}
 
 -- the sizes, and the gains' limit
 pub record Sized (k l : ℕ) (g : ℕ → ℕ → ℕ) : Type 0 where
-  pub rows : k ≤ 8
-  pub columns : l ≤ 8
+  pub rows : k ≤ degreeLimit
+  pub columns : l ≤ degreeLimit
   pub gains : (i j : ℕ) → i < k → j < l → g i j ≤ gainLimit
 
 -- the arrays that a caller lends
 pub record Lengths (y z m : List ℕ) : Type 0 where
-  pub rows : length y ≡ 8
-  pub columns : length z ≡ 8
-  pub matching : length m ≡ 8
+  pub rows : length y ≡ degreeLimit
+  pub columns : length z ≡ degreeLimit
+  pub matching : length m ≡ degreeLimit
 
--- each row has a column, or 8
+-- each row has a column, or `degreeLimit`
 pub record Bytes (l : ℕ) (m : List ℕ) : Type 0 where
-  pub range : (x : ℕ) → x < 8 → (at m x < l) ⊎ (at m x ≡ 8)
+  pub range : (x : ℕ) → x < degreeLimit → (at m x < l) ⊎ (at m x ≡ degreeLimit)
 
 -- Row duals y, column duals z and the column m of each row, where `finished` says which rows are finished. Other rows are pending: they have no column, and their duals mean nothing.
 pub record State (k l : ℕ) (g : ℕ → ℕ → ℕ) (finished : ℕ → Bool) (y z m : ℕ → ℕ) : Type 0 where
@@ -70,11 +71,11 @@ pub record Answer (k l : ℕ) (g : ℕ → ℕ → ℕ) (y z m : List ℕ) : Typ
 -- h is g with column c's gains at 0
 pub record Cleared (k c : ℕ) (g h : ℕ → ℕ → ℕ) : Type 0 where
   pub here : (i : ℕ) → i < k → h i c ≡ 0
-  pub other : (i j : ℕ) → j < 8 → j ≢ c → h i j ≡ g i j
+  pub other : (i j : ℕ) → j < degreeLimit → j ≢ c → h i j ≡ g i j
 
 -- the answer of the rest: without column c, whose gains are now 0. The last part says it of the old gains: no matching of the other columns weighs more.
 pub record Rest (k l c : ℕ) (g h y z m : List ℕ) : Type 0 where
-  pub long : length h ≡ 64
+  pub long : length h ≡ pairLimit
   pub cleared : Cleared k c (cell g) (cell h)
   pub sized : Sized k l (cell h)
   pub answer : Answer k l (cell h) y z m
@@ -85,8 +86,8 @@ pub record Total (k l : ℕ) (y z : ℕ → ℕ) (r : ℕ) : Type 0 where
   pub equal : r ≡ sum k y + sum l z
   pub greatest : (g : ℕ → ℕ → ℕ) (m : ℕ → ℕ) → Solved k l g y z m → r ≡ best l g k all
 
--- r is what row i has in the answer: its column if the gain is not 0, else none, which is 8
+-- r is what row i has in the answer: its column if the gain is not 0, else none, which is `degreeLimit`
 pub record Partner (l : ℕ) (g : ℕ → ℕ → ℕ) (m : ℕ → ℕ) (i r : ℕ) : Type 0 where
-  pub range : r ≤ 8
-  pub pair : r < 8 → (r ≡ m i) × (r < l) × (0 < g i r)
-  pub none : 8 ≤ r → gained l g m i ≡ 0
+  pub range : r ≤ degreeLimit
+  pub pair : r < degreeLimit → (r ≡ m i) × (r < l) × (0 < g i r)
+  pub none : degreeLimit ≤ r → gained l g m i ≡ 0

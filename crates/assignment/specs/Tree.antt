@@ -7,6 +7,7 @@ use Prim.Native.Nat.{ℕ, _+_, _≤_, _<_}
 use lib.Dec.{eqb}
 use lib.ListN.{length, getD, set}
 use Rattle.foundations.specs.Sums.{sum}
+use Rattle.model.specs.Limits.{degreeLimit}
 use Rattle.assignment.specs.Matching.{at, entry, gainLimit, Injective, Has}
 use Rattle.assignment.specs.State.{State, Sized, Lengths, Bytes, Pending, Joined}
 use Rattle.assignment.specs.Loops.{OwnersOf, Nearest}
@@ -80,20 +81,20 @@ outside l C = sum l (λ j. cond (eqb (C j) 1) 0 1)
 
 -- the lengths of a search's own arrays
 pub record Arrays (row col dist from join : List ℕ) (alt : List (List ℕ)) : Type 0 where
-  pub rows : length row ≡ 8
-  pub columns : length col ≡ 8
-  pub distances : length dist ≡ 8
-  pub sources : length from ≡ 8
-  pub joins : length join ≡ 8
-  pub alternatives : length alt ≡ 8
-  pub each : (t : ℕ) → t < 8 → length (getD alt t []) ≡ 8
+  pub rows : length row ≡ degreeLimit
+  pub columns : length col ≡ degreeLimit
+  pub distances : length dist ≡ degreeLimit
+  pub sources : length from ≡ degreeLimit
+  pub joins : length join ≡ degreeLimit
+  pub alternatives : length alt ≡ degreeLimit
+  pub each : (t : ℕ) → t < degreeLimit → length (getD alt t []) ≡ degreeLimit
 
 -- row o and column b join the tree at distance d; o's alternative is p's with b for p and none for o
 pub record Grown (p b o d : ℕ) (alt : List (List ℕ)) (row col join : List ℕ) (alt′ : List (List ℕ)) (row′ col′ join′ : List ℕ) : Type 0 where
   pub rows : row′ ≡ set row o 1
   pub columns : col′ ≡ set col b 1
   pub joins : join′ ≡ set join o d
-  pub alts : alt′ ≡ set alt o (set (set (getD alt p []) p b) o 8)
+  pub alts : alt′ ≡ set alt o (set (set (getD alt p []) p b) o degreeLimit)
 
 -- a search under way, of the arrays
 pub record Searching (k l r : ℕ) (g : ℕ → ℕ → ℕ) (finished : ℕ → Bool) (y z m row col dist from join : List ℕ) (alt : List (List ℕ)) : Type 0 where
@@ -106,7 +107,7 @@ pub record Rooted (k l r : ℕ) (g : ℕ → ℕ → ℕ) (y z m own dist : List
   pub below : r < k
   pub sizes : Lengths y z m
   pub bytes : Bytes l m
-  pub long : length dist ≡ 8
+  pub long : length dist ≡ degreeLimit
   pub root : at y r ≡ gainLimit
   pub owners : OwnersOf k m own
   pub distances : (j : ℕ) → j < l → at dist j + g r j ≡ gainLimit + at z j
@@ -117,7 +118,7 @@ pub record Rooted (k l r : ℕ) (g : ℕ → ℕ → ℕ) (y z m own dist : List
 pub record Turn (k l r : ℕ) (g : ℕ → ℕ → ℕ) (y₀ z₀ m₀ y z m own row col dist from join : List ℕ) (alt : List (List ℕ)) (a low b d : ℕ) : Type 0 where
   pub sizes : Lengths y z m
   pub arrays : Arrays row col dist from join alt
-  pub bytes : (t : ℕ) → t < 8 → Bytes l (getD alt t [])
+  pub bytes : (t : ℕ) → t < degreeLimit → Bytes l (getD alt t [])
   pub owners : OwnersOf k m own
   pub lowest : Lowest k (at y) (at row) (at join) a low
   pub nearest : Nearest l (at col) (at dist) b d

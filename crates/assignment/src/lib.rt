@@ -1,13 +1,18 @@
-//! The heaviest matching of rows with columns, at most 8 each, by path searches: one search for each row, and in a search each
-//! pair of a row and a column is looked at once. Gains are at `row * 8 + column` of a table of 64, none above `GAIN_LIMIT`.
-//! The duals `y` of rows and `z` of columns show that no matching is heavier: their sums cover every gain, and the sum of all
-//! is the matching's weight. `m` has the column of each row, or 8. The definitions are in `specs/`.
+//! The heaviest matching of rows with columns, at most `PLACES` each, by path searches: one search for each row, and in a search
+//! each pair of a row and a column is looked at once. Gains are at `row * PLACES + column`, none above `GAIN_LIMIT`. The duals
+//! `y` of rows and `z` of columns show that no matching is heavier: their sums cover every gain, and the sum of all is the
+//! matching's weight. `m` has the column of each row, or `FREE`. The definitions are in `specs/`.
 
+use model::Gains;
+use model::Limits;
+use model::Row;
+use model::WideRow;
 ghost use Prim.Native.Nat.{ℕ, _+_, _-_, _*_, _<_, _≤_};
 ghost use mathlib.Core.Path.{_≡_};
 ghost use lib.ListN.{length};
 ghost use Rattle.foundations.specs.Sums.{sum};
 ghost use Rattle.foundations.specs.Changed.{Changed};
+ghost use Rattle.model.specs.Limits.{degreeLimit, pairLimit};
 ghost use Rattle.assignment.specs.Matching.{at, cell, gainLimit};
 ghost use Rattle.assignment.specs.State.{Sized, Lengths, Bytes, Pending, Answer, Cleared, Rest, Partner, Total};
 ghost use Rattle.assignment.specs.Loops.{lessOf, whoOf, openOf, rowEnd, columnEnd, OwnersOf, Owner, Looked, First, Room, Settled};
@@ -16,10 +21,13 @@ ghost use Rattle.assignment.specs.Tree.{Grown, Rooted, Ended};
 // No gain is greater: 2 ^ 48.
 pub const GAIN_LIMIT: u64 = 281474976710656;
 
+// What stands for the column of a row that has none, and for the row of a column that has none.
+pub const FREE: u8 = Limits::DEGREE;
+
 // Greater than every distance.
 const FAR: u64 = 18446744073709551615;
 
-// The nearest column outside a search's tree, or 8 and `FAR`.
+// The nearest column outside a search's tree, or PLACES and `FAR`.
 struct Near {
     column: usize,
     distance: u64,
@@ -32,7 +40,7 @@ fn place(x: u8) -> usize
 }
 
 fn byte(x: usize) -> u8
-    requires { ⌜ x < 8 ⌝ }
+    requires { ⌜ x < degreeLimit ⌝ }
     ensures { λ r. ⌜ r ≡ x ⌝ }
 {
     x as u8
@@ -64,16 +72,16 @@ fn open_of(c: u8, x: u64) -> u64
     if c == 1 { FAR } else { x }
 }
 
-// The row that has each column, or 8.
-fn owners(m: &[u8; 8], k: usize) -> [u8; 8]
-    requires { ⌜ k ≤ 8 ⌝ }
+// The row that has each column, or FREE.
+fn owners(m: &Row, k: usize) -> Row
+    requires { ⌜ k ≤ degreeLimit ⌝ }
     ensures { λ r. ⌜ OwnersOf k (now (m .entry)) r ⌝ }
 {
-    let mut own = [8u8; 8];
+    let mut own = [FREE; Limits::PLACES];
     let mut i = 0;
     while i < k {
         let c = place(m[i]);
-        if c < 8 {
+        if c < Limits::PLACES {
             own[c] = byte(i);
         }
         i += 1;
@@ -82,15 +90,15 @@ fn owners(m: &[u8; 8], k: usize) -> [u8; 8]
 }
 
 // The distance of each column from row r at the greatest dual, and the nearest column.
-fn look_first(dist: &mut [u64; 8], g: &[u64; 64], z: &[u64; 8], l: usize, r: usize) -> Near
-    requires { ⌜ (length (now dist) ≡ 8) × (l ≤ 8) × (r < 8) × ((x : ℕ) → x < l → (at (now z) x ≤ gainLimit) × (cell (now g) r x ≤ gainLimit)) ⌝ }
+fn look_first(dist: &mut WideRow, g: &Gains, z: &WideRow, l: usize, r: usize) -> Near
+    requires { ⌜ (length (now dist) ≡ degreeLimit) × (l ≤ degreeLimit) × (r < degreeLimit) × ((x : ℕ) → x < l → (at (now z) x ≤ gainLimit) × (cell (now g) r x ≤ gainLimit)) ⌝ }
     ensures { λ n. ⌜ First l (λ x. gainLimit + at (now (z .entry)) x - cell (now (g .entry)) r x) (now (dist .entry)) (now (dist .exit)) (n .column) (n .distance) ⌝ }
 {
-    let mut b = 8;
+    let mut b = Limits::PLACES;
     let mut d = FAR;
     let mut j = 0;
     while j < l {
-        let s = GAIN_LIMIT + z[j] - g[r * 8 + j];
+        let s = GAIN_LIMIT + z[j] - g[r * Limits::PLACES + j];
         dist[j] = s;
         b = place_of(s, d, j, b);
         d = less_of(s, d);
@@ -104,24 +112,24 @@ fn look_first(dist: &mut [u64; 8], g: &[u64; 64], z: &[u64; 8], l: usize, r: usi
 
 // The distances after row o joined the tree, and the nearest column outside.
 fn look(
-    dist: &mut [u64; 8],
-    from: &mut [u8; 8],
-    col: &[u8; 8],
-    g: &[u64; 64],
-    z: &[u64; 8],
+    dist: &mut WideRow,
+    from: &mut Row,
+    col: &Row,
+    g: &Gains,
+    z: &WideRow,
     l: usize,
     t: u8,
     base: u64,
 ) -> Near
-    requires { ⌜ (length (now dist) ≡ 8) × (length (now from) ≡ 8) × (l ≤ 8) × (t < 8) × (base ≤ 2 * gainLimit) × ((x : ℕ) → x < l → (at (now z) x ≤ gainLimit) × (cell (now g) t x ≤ base + at (now z) x)) ⌝ }
+    requires { ⌜ (length (now dist) ≡ degreeLimit) × (length (now from) ≡ degreeLimit) × (l ≤ degreeLimit) × (t < degreeLimit) × (base ≤ 2 * gainLimit) × ((x : ℕ) → x < l → (at (now z) x ≤ gainLimit) × (cell (now g) t x ≤ base + at (now z) x)) ⌝ }
     ensures { λ n. ⌜ Looked l t (λ x. base + at (now (z .entry)) x - cell (now (g .entry)) t x) (at (now (col .entry))) (now (dist .entry)) (now (from .entry)) (now (dist .exit)) (now (from .exit)) (n .column) (n .distance) ⌝ }
 {
     let o = place(t);
-    let mut b = 8;
+    let mut b = Limits::PLACES;
     let mut d = FAR;
     let mut j = 0;
     while j < l {
-        let s = base + z[j] - g[o * 8 + j];
+        let s = base + z[j] - g[o * Limits::PLACES + j];
         let old = dist[j];
         let new = less_of(s, old);
         dist[j] = new;
@@ -154,8 +162,8 @@ fn column_end(e: u64, c: u8, w: u64, x: u64) -> u64
 }
 
 // The duals of tree rows at the end of a search at distance e.
-fn settle_rows(y: &mut [u64; 8], row: &[u8; 8], join: &[u64; 8], k: usize, e: u64)
-    requires { ⌜ (length (now y) ≡ 8) × (k ≤ 8) × ((x : ℕ) → x < k → at (now row) x ≡ 1 → (e ≤ at (now y) x + at (now join) x) × (at (now y) x + at (now join) x ≤ 2 * gainLimit)) ⌝ }
+fn settle_rows(y: &mut WideRow, row: &Row, join: &WideRow, k: usize, e: u64)
+    requires { ⌜ (length (now y) ≡ degreeLimit) × (k ≤ degreeLimit) × ((x : ℕ) → x < k → at (now row) x ≡ 1 → (e ≤ at (now y) x + at (now join) x) × (at (now y) x + at (now join) x ≤ 2 * gainLimit)) ⌝ }
     ensures { λ _. ⌜ Changed k (λ x v. rowEnd e (at (now (row .entry)) x) (at (now (join .entry)) x) v) (now (y .entry)) (now (y .exit)) ⌝ }
 {
     let mut i = 0;
@@ -166,8 +174,8 @@ fn settle_rows(y: &mut [u64; 8], row: &[u8; 8], join: &[u64; 8], k: usize, e: u6
 }
 
 // The duals of tree columns at the end of a search at distance e.
-fn settle_columns(z: &mut [u64; 8], col: &[u8; 8], dist: &[u64; 8], l: usize, e: u64)
-    requires { ⌜ (length (now z) ≡ 8) × (l ≤ 8) × ((x : ℕ) → x < l → at (now col) x ≡ 1 → (at (now dist) x ≤ at (now z) x + e) × (at (now z) x + e ≤ 2 * gainLimit)) ⌝ }
+fn settle_columns(z: &mut WideRow, col: &Row, dist: &WideRow, l: usize, e: u64)
+    requires { ⌜ (length (now z) ≡ degreeLimit) × (l ≤ degreeLimit) × ((x : ℕ) → x < l → at (now col) x ≡ 1 → (at (now dist) x ≤ at (now z) x + e) × (at (now z) x + e ≤ 2 * gainLimit)) ⌝ }
     ensures { λ _. ⌜ Changed l (λ x v. columnEnd e (at (now (col .entry)) x) (at (now (dist .entry)) x) v) (now (z .entry)) (now (z .exit)) ⌝ }
 {
     let mut j = 0;
@@ -179,12 +187,12 @@ fn settle_columns(z: &mut [u64; 8], col: &[u8; 8], dist: &[u64; 8], l: usize, e:
 
 // The duals at the end of a search at distance e.
 fn settle(
-    y: &mut [u64; 8],
-    z: &mut [u64; 8],
-    row: &[u8; 8],
-    col: &[u8; 8],
-    dist: &[u64; 8],
-    join: &[u64; 8],
+    y: &mut WideRow,
+    z: &mut WideRow,
+    row: &Row,
+    col: &Row,
+    dist: &WideRow,
+    join: &WideRow,
     k: usize,
     l: usize,
     e: u64,
@@ -198,21 +206,21 @@ fn settle(
 
 // Row o and its column b join the tree at distance d, by way of row p: o's alternative is p's with b for p, and o made free.
 fn grow(
-    alt: &mut [[u8; 8]; 8],
-    row: &mut [u8; 8],
-    col: &mut [u8; 8],
-    join: &mut [u64; 8],
+    alt: &mut [Row; Limits::PLACES],
+    row: &mut Row,
+    col: &mut Row,
+    join: &mut WideRow,
     p: usize,
     b: usize,
     o: usize,
     d: u64,
 )
-    requires { ⌜ (p < 8) × (b < 8) × (o < 8) ⌝ }
+    requires { ⌜ (p < degreeLimit) × (b < degreeLimit) × (o < degreeLimit) ⌝ }
     ensures { λ _. ⌜ Grown p b o d (now (alt .entry)) (now (row .entry)) (now (col .entry)) (now (join .entry)) (now (alt .exit)) (now (row .exit)) (now (col .exit)) (now (join .exit)) ⌝ }
 {
     let mut n = alt[p];
     n[p] = byte(b);
-    n[o] = 8;
+    n[o] = FREE;
     alt[o] = n;
     row[o] = 1;
     col[b] = 1;
@@ -222,26 +230,26 @@ fn grow(
 // The search from row r, whose dual is the limit and whose distances are known. A turn takes the nearest column into the tree,
 // with its row. The search ends at a column without a row, or where a tree row's dual is 0: that row is made free.
 fn explore(
-    g: &[u64; 64],
+    g: &Gains,
     k: usize,
     l: usize,
     r: usize,
-    y: &mut [u64; 8],
-    z: &mut [u64; 8],
-    m: &mut [u8; 8],
-    own: &[u8; 8],
-    dist: &mut [u64; 8],
+    y: &mut WideRow,
+    z: &mut WideRow,
+    m: &mut Row,
+    own: &Row,
+    dist: &mut WideRow,
     near: Near,
 )
     requires { ⌜ Rooted k l r (cell (now g)) (now y) (now z) (now m) (now own) (now dist) (near .column) (near .distance) ⌝ }
     ensures { λ _. ⌜ Ended k l r (cell (now (g .entry))) (now (y .entry)) (now (z .entry)) (now (m .entry)) (now (y .exit)) (now (z .exit)) (now (m .exit)) ⌝ }
 {
-    let mut row = [0u8; 8];
+    let mut row = [0u8; Limits::PLACES];
     row[r] = 1;
-    let mut col = [0u8; 8];
-    let mut join = [0u64; 8];
-    let mut from = [byte(r); 8];
-    let mut alt = [[8u8; 8]; 8];
+    let mut col = [0u8; Limits::PLACES];
+    let mut join = [0u64; Limits::PLACES];
+    let mut from = [byte(r); Limits::PLACES];
+    let mut alt = [[FREE; Limits::PLACES]; Limits::PLACES];
     alt[r] = *m;
     let mut a = r;
     let mut low = GAIN_LIMIT;
@@ -251,7 +259,7 @@ fn explore(
         let p = place(from[b]);
         let t = own[b];
         let o = place(t);
-        if 8 <= o {
+        if Limits::PLACES <= o {
             settle(y, z, &row, &col, dist, &join, k, l, d);
             let mut n = alt[p];
             n[p] = byte(b);
@@ -272,20 +280,12 @@ fn explore(
 
 // Row r, which is pending, joins the finished rows, whichever they are. Its dual starts at the limit, which covers every gain, so
 // that its gains are looked at once. Nothing is left to do where the columns' duals cover r, or its nearest column is free.
-pub fn search(
-    g: &[u64; 64],
-    k: usize,
-    l: usize,
-    r: usize,
-    y: &mut [u64; 8],
-    z: &mut [u64; 8],
-    m: &mut [u8; 8],
-)
+fn search(g: &Gains, k: usize, l: usize, r: usize, y: &mut WideRow, z: &mut WideRow, m: &mut Row)
     requires { ⌜ (Sized k l (cell (now g))) × (r < k) × (Lengths (now y) (now z) (now m)) × (Bytes l (now m)) × (Pending k l r (cell (now g)) (at (now y)) (at (now z)) (at (now m))) ⌝ }
     ensures { λ _. ⌜ Ended k l r (cell (now (g .entry))) (now (y .entry)) (now (z .entry)) (now (m .entry)) (now (y .exit)) (now (z .exit)) (now (m .exit)) ⌝ }
 {
     let own = owners(m, k);
-    let mut dist = [0u64; 8];
+    let mut dist = [0u64; Limits::PLACES];
     let near = look_first(&mut dist, g, z, l, r);
     let d = near.distance;
     if GAIN_LIMIT <= d {
@@ -293,7 +293,7 @@ pub fn search(
         return;
     }
     let b = near.column;
-    if 8 <= own[b] {
+    if FREE <= own[b] {
         y[r] = GAIN_LIMIT - d;
         m[r] = byte(b);
         return;
@@ -303,12 +303,12 @@ pub fn search(
 }
 
 // The heaviest matching of k rows and l columns with its duals, one search for each row. What the arrays held does not matter.
-pub fn solve(g: &[u64; 64], k: usize, l: usize, y: &mut [u64; 8], z: &mut [u64; 8], m: &mut [u8; 8])
+pub fn solve(g: &Gains, k: usize, l: usize, y: &mut WideRow, z: &mut WideRow, m: &mut Row)
     requires { ⌜ (Sized k l (cell (now g))) × (Lengths (now y) (now z) (now m)) ⌝ }
     ensures { λ _. ⌜ Answer k l (cell (now (g .entry))) (now (y .exit)) (now (z .exit)) (now (m .exit)) ⌝ }
 {
-    *z = [0u64; 8];
-    *m = [8u8; 8];
+    *z = [0u64; Limits::PLACES];
+    *m = [FREE; Limits::PLACES];
     let mut r = 0;
     while r < k {
         search(g, k, l, r, y, z, m);
@@ -316,9 +316,9 @@ pub fn solve(g: &[u64; 64], k: usize, l: usize, y: &mut [u64; 8], z: &mut [u64; 
     }
 }
 
-// The row that has column c, or 8.
-fn owner(m: &[u8; 8], k: usize, c: usize) -> usize
-    requires { ⌜ k ≤ 8 ⌝ }
+// The row that has column c, or PLACES.
+fn owner(m: &Row, k: usize, c: usize) -> usize
+    requires { ⌜ k ≤ degreeLimit ⌝ }
     ensures { λ r. ⌜ Owner k (at (now (m .entry))) c r ⌝ }
 {
     let mut i = 0;
@@ -328,17 +328,17 @@ fn owner(m: &[u8; 8], k: usize, c: usize) -> usize
         }
         i += 1;
     }
-    8
+    Limits::PLACES
 }
 
 // The gains of column c set to 0.
-pub fn clear(g: &mut [u64; 64], k: usize, c: usize)
-    requires { ⌜ (length (now g) ≡ 64) × (k ≤ 8) × (c < 8) ⌝ }
-    ensures { λ _. ⌜ (length (now (g .exit)) ≡ 64) × (Cleared k c (cell (now (g .entry))) (cell (now (g .exit)))) ⌝ }
+pub fn clear(g: &mut Gains, k: usize, c: usize)
+    requires { ⌜ (length (now g) ≡ pairLimit) × (k ≤ degreeLimit) × (c < degreeLimit) ⌝ }
+    ensures { λ _. ⌜ (length (now (g .exit)) ≡ pairLimit) × (Cleared k c (cell (now (g .entry))) (cell (now (g .exit)))) ⌝ }
 {
     let mut i = 0;
     while i < k {
-        g[i * 8 + c] = 0;
+        g[i * Limits::PLACES + c] = 0;
         i += 1;
     }
 }
@@ -346,15 +346,15 @@ pub fn clear(g: &mut [u64; 64], k: usize, c: usize)
 // From the answer of the whole to that without column c: its gains and its dual are set to 0, and its row, if it has one, is
 // made pending and joins again by one search.
 pub fn without(
-    g: &mut [u64; 64],
+    g: &mut Gains,
     k: usize,
     l: usize,
     c: usize,
-    y: &mut [u64; 8],
-    z: &mut [u64; 8],
-    m: &mut [u8; 8],
+    y: &mut WideRow,
+    z: &mut WideRow,
+    m: &mut Row,
 )
-    requires { ⌜ (length (now g) ≡ 64) × (c < l) × (Sized k l (cell (now g))) × (Answer k l (cell (now g)) (now y) (now z) (now m)) ⌝ }
+    requires { ⌜ (length (now g) ≡ pairLimit) × (c < l) × (Sized k l (cell (now g))) × (Answer k l (cell (now g)) (now y) (now z) (now m)) ⌝ }
     ensures { λ _. ⌜ Rest k l c (now (g .entry)) (now (g .exit)) (now (y .exit)) (now (z .exit)) (now (m .exit)) ⌝ }
 {
     clear(g, k, c);
@@ -363,29 +363,29 @@ pub fn without(
     if k <= r {
         return;
     }
-    m[r] = 8;
+    m[r] = FREE;
     search(g, k, l, r, y, z, m);
 }
 
-// What row i has in the answer: its column, or 8. A matched pair whose gain is 0 is no pair of the answer.
-pub fn partner(g: &[u64; 64], l: usize, m: &[u8; 8], i: usize) -> u8
-    requires { ⌜ (l ≤ 8) × (i < 8) ⌝ }
+// What row i has in the answer: its column, or FREE. A matched pair whose gain is 0 is no pair of the answer.
+pub fn partner(g: &Gains, l: usize, m: &Row, i: usize) -> u8
+    requires { ⌜ (l ≤ degreeLimit) × (i < degreeLimit) ⌝ }
     ensures { λ r. ⌜ Partner l (cell (now (g .entry))) (at (now (m .entry))) i r ⌝ }
 {
     let t = m[i];
     let c = place(t);
     if l <= c {
-        return 8;
+        return FREE;
     }
-    if g[i * 8 + c] == 0 {
-        return 8;
+    if g[i * Limits::PLACES + c] == 0 {
+        return FREE;
     }
     t
 }
 
 // The sum of the first n.
-fn sum_of(a: &[u64; 8], n: usize) -> u64
-    requires { ⌜ (n ≤ 8) × ((x : ℕ) → x < n → at (now a) x ≤ gainLimit) ⌝ }
+fn sum_of(a: &WideRow, n: usize) -> u64
+    requires { ⌜ (n ≤ degreeLimit) × ((x : ℕ) → x < n → at (now a) x ≤ gainLimit) ⌝ }
     ensures { λ r. ⌜ (r ≡ sum n (at (now (a .entry)))) × (r ≤ n * gainLimit) ⌝ }
 {
     let mut s = 0;
@@ -398,8 +398,8 @@ fn sum_of(a: &[u64; 8], n: usize) -> u64
 }
 
 // The sum of all duals: the greatest weight, where they are those of an answer.
-pub fn total(k: usize, l: usize, y: &[u64; 8], z: &[u64; 8]) -> u64
-    requires { ⌜ (k ≤ 8) × (l ≤ 8) × ((x : ℕ) → x < k → at (now y) x ≤ gainLimit) × ((x : ℕ) → x < l → at (now z) x ≤ gainLimit) ⌝ }
+pub fn total(k: usize, l: usize, y: &WideRow, z: &WideRow) -> u64
+    requires { ⌜ (k ≤ degreeLimit) × (l ≤ degreeLimit) × ((x : ℕ) → x < k → at (now y) x ≤ gainLimit) × ((x : ℕ) → x < l → at (now z) x ≤ gainLimit) ⌝ }
     ensures { λ r. ⌜ Total k l (at (now (y .entry))) (at (now (z .entry))) r ⌝ }
 {
     sum_of(y, k) + sum_of(z, l)

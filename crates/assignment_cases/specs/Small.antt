@@ -7,6 +7,7 @@ use native.Mathlib.Nat.{not-suc-le-zero}
 use lib.ListN.{length, set}
 use lib.Seq.{getD-set-same, getD-set-other}
 use borrow.Author.Count.{below-more}
+use Rattle.model.specs.Limits.{degreeLimit, pairLimit}
 use Rattle.assignment.specs.Matching.{at, cell, gainLimit}
 use Rattle.assignment.specs.State.{Sized}
 
@@ -26,11 +27,11 @@ small-more {n} {v} {g} S h le = record {
       (subst (λ (a : ℕ). a ≤ gainLimit) (sym (getD-set-same g n v 0 h)) le);
 }
 
-pub small-end : {n : ℕ} {g : List ℕ} → Small n g → 64 ≤ n → Small 64 g
+pub small-end : {n : ℕ} {g : List ℕ} → Small n g → pairLimit ≤ n → Small pairLimit g
 small-end S h = record { low = λ x lt. S .low x (omega arith) }
 
-pub small-sized : {k l : ℕ} {g : List ℕ} → Small 64 g → k ≤ 8 → l ≤ 8 → Sized k l (cell g)
-small-sized {k} {l} {g} S hk hl = record { rows = hk; columns = hl; gains = λ i j hi hj. S .low (i * 8 + j) (omega arith) }
+pub small-sized : {k l : ℕ} {g : List ℕ} → Small pairLimit g → k ≤ degreeLimit → l ≤ degreeLimit → Sized k l (cell g)
+small-sized {k} {l} {g} S hk hl = record { rows = hk; columns = hl; gains = λ i j hi hj. S .low (i * degreeLimit + j) (omega arith) }
 
 -- a row fewer
 pub sized-less : {k l i : ℕ} {g : ℕ → ℕ → ℕ} → Sized k l g → i ≤ k → Sized i l g

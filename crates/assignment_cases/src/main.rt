@@ -3,10 +3,16 @@
 //! Of each answer it checks the weight, that the pairs handed on make it up, that they are distinct, and that the duals cover
 //! every gain; then the same for each column taken out. It prints how many it compared and how many were right.
 
+use assignment::FREE;
 use assignment::GAIN_LIMIT;
 use libc::STDOUT_FILENO;
+use model::Gains;
+use model::Limits;
+use model::Row;
+use model::WideRow;
 use std::num::wrapping_add_u64;
 ghost use Prim.Native.Nat.{ℕ, _+_, _*_, _<_, _≤_};
+ghost use Rattle.model.specs.Limits.{degreeLimit, pairLimit};
 ghost use Rattle.assignment.specs.Matching.{at, cell, gainLimit};
 ghost use Rattle.assignment.specs.State.{Sized, Answer};
 ghost use Rattle.assignment_cases.specs.Small.{Small};
@@ -54,13 +60,13 @@ fn gain(kind: u64, x: u64) -> u64
     }
 }
 
-fn table(kind: u64, seed: u64) -> [u64; 64]
-    ensures { λ r. ⌜ Small 64 r ⌝ }
+fn table(kind: u64, seed: u64) -> Gains
+    ensures { λ r. ⌜ Small pairLimit r ⌝ }
 {
-    let mut g = [0u64; 64];
+    let mut g = [0u64; Limits::PAIRS];
     let mut s = seed;
     let mut i = 0;
-    while i < 64 {
+    while i < Limits::PAIRS {
         s = next(s);
         g[i] = gain(kind, s);
         i += 1;
@@ -75,7 +81,7 @@ fn greater(a: u64, b: u64) -> u64
 }
 
 // The greatest weight of the first k rows over the free columns, by trying all.
-fn exhaustive(g: &[u64; 64], k: usize, l: usize, free: [u8; 8]) -> u64
+fn exhaustive(g: &Gains, k: usize, l: usize, free: Row) -> u64
     requires { ⌜ Sized k l (cell (now g)) ⌝ }
     ensures { λ r. ⌜ r ≤ k * gainLimit ⌝ }
 {
@@ -89,7 +95,7 @@ fn exhaustive(g: &[u64; 64], k: usize, l: usize, free: [u8; 8]) -> u64
         if free[j] == 1 {
             let mut rest = free;
             rest[j] = 0;
-            let w = g[i * 8 + j] + exhaustive(g, i, l, rest);
+            let w = g[i * Limits::PLACES + j] + exhaustive(g, i, l, rest);
             best = greater(best, w);
         }
         j += 1;
@@ -98,15 +104,15 @@ fn exhaustive(g: &[u64; 64], k: usize, l: usize, free: [u8; 8]) -> u64
 }
 
 // The weight of the pairs that are handed on.
-fn weigh(g: &[u64; 64], k: usize, l: usize, m: &[u8; 8]) -> u64
-    requires { ⌜ (k ≤ 8) × (l ≤ 8) ⌝ }
+fn weigh(g: &Gains, k: usize, l: usize, m: &Row) -> u64
+    requires { ⌜ (k ≤ degreeLimit) × (l ≤ degreeLimit) ⌝ }
 {
     let mut w = 0;
     let mut i = 0;
     while i < k {
         let c = assignment::partner(g, l, m, i);
-        if c < 8 {
-            w = wrapping_add_u64(w, g[i * 8 + c as usize]);
+        if c < FREE {
+            w = wrapping_add_u64(w, g[i * Limits::PLACES + c as usize]);
         }
         i += 1;
     }
@@ -114,15 +120,15 @@ fn weigh(g: &[u64; 64], k: usize, l: usize, m: &[u8; 8]) -> u64
 }
 
 // Whether no two of these pairs have the same column, and each column is below l.
-fn distinct(g: &[u64; 64], k: usize, l: usize, m: &[u8; 8]) -> bool
-    requires { ⌜ (k ≤ 8) × (l ≤ 8) ⌝ }
+fn distinct(g: &Gains, k: usize, l: usize, m: &Row) -> bool
+    requires { ⌜ (k ≤ degreeLimit) × (l ≤ degreeLimit) ⌝ }
 {
     let mut ok = true;
-    let mut used = [0u8; 8];
+    let mut used = [0u8; Limits::PLACES];
     let mut i = 0;
     while i < k {
         let c = assignment::partner(g, l, m, i) as usize;
-        if c < 8 {
+        if c < Limits::PLACES {
             let fresh = used[c] == 0;
             let below = c < l;
             ok = ok & fresh & below;
@@ -134,21 +140,21 @@ fn distinct(g: &[u64; 64], k: usize, l: usize, m: &[u8; 8]) -> bool
 }
 
 // Whether the dual y of row i and those of the columns cover the row's gains.
-fn row_covered(g: &[u64; 64], l: usize, i: usize, y: u64, z: &[u64; 8]) -> bool
-    requires { ⌜ (i < 8) × (l ≤ 8) ⌝ }
+fn row_covered(g: &Gains, l: usize, i: usize, y: u64, z: &WideRow) -> bool
+    requires { ⌜ (i < degreeLimit) × (l ≤ degreeLimit) ⌝ }
 {
     let mut ok = true;
     let mut j = 0;
     while j < l {
-        let covered = g[i * 8 + j] <= wrapping_add_u64(y, z[j]);
+        let covered = g[i * Limits::PLACES + j] <= wrapping_add_u64(y, z[j]);
         ok = ok & covered;
         j += 1;
     }
     ok
 }
 
-fn covered(g: &[u64; 64], k: usize, l: usize, y: &[u64; 8], z: &[u64; 8]) -> bool
-    requires { ⌜ (k ≤ 8) × (l ≤ 8) ⌝ }
+fn covered(g: &Gains, k: usize, l: usize, y: &WideRow, z: &WideRow) -> bool
+    requires { ⌜ (k ≤ degreeLimit) × (l ≤ degreeLimit) ⌝ }
 {
     let mut ok = true;
     let mut i = 0;
@@ -161,25 +167,17 @@ fn covered(g: &[u64; 64], k: usize, l: usize, y: &[u64; 8], z: &[u64; 8]) -> boo
 }
 
 // Whether an answer is right.
-fn right(g: &[u64; 64], k: usize, l: usize, y: &[u64; 8], z: &[u64; 8], m: &[u8; 8]) -> bool
+fn right(g: &Gains, k: usize, l: usize, y: &WideRow, z: &WideRow, m: &Row) -> bool
     requires { ⌜ (Sized k l (cell (now g))) × (Answer k l (cell (now g)) (now y) (now z) (now m)) ⌝ }
 {
     let t = assignment::total(k, l, y, z);
-    let greatest = t == exhaustive(g, k, l, [1u8; 8]);
+    let greatest = t == exhaustive(g, k, l, [1u8; Limits::PLACES]);
     let made = t == weigh(g, k, l, m);
     greatest & made & distinct(g, k, l, m) & covered(g, k, l, y, z)
 }
 
 // Whether the answer without column c is right.
-fn rest_right(
-    g: [u64; 64],
-    k: usize,
-    l: usize,
-    c: usize,
-    y: [u64; 8],
-    z: [u64; 8],
-    m: [u8; 8],
-) -> bool
+fn rest_right(g: Gains, k: usize, l: usize, c: usize, y: WideRow, z: WideRow, m: Row) -> bool
     requires { ⌜ (c < l) × (Sized k l (cell g)) × (Answer k l (cell g) y z m) ⌝ }
 {
     let mut h = g;
@@ -196,12 +194,12 @@ fn one(b: bool) -> u64 {
 
 // One matrix of k rows and l columns, and the same without each column in turn, added to the counts.
 fn compare(kind: u64, seed: u64, k: usize, l: usize, n: Count) -> Count
-    requires { ⌜ (k ≤ 8) × (l ≤ 8) ⌝ }
+    requires { ⌜ (k ≤ degreeLimit) × (l ≤ degreeLimit) ⌝ }
 {
     let g = table(kind, seed);
-    let mut y = [5u64; 8];
-    let mut z = [6u64; 8];
-    let mut m = [7u8; 8];
+    let mut y = [5u64; Limits::PLACES];
+    let mut z = [6u64; Limits::PLACES];
+    let mut m = [7u8; Limits::PLACES];
     assignment::solve(&g, k, l, &mut y, &mut z, &mut m);
     let whole = one(right(&g, k, l, &y, &z, &m));
     let mut rests = n.rests;

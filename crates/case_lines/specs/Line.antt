@@ -1,5 +1,5 @@
 -- What reading a line of test cases says of the places that it answers. Assumes nothing.
-use Prim.Native.Nat.{ℕ, _≤_, _<_, min}
+use Prim.Native.Nat.{ℕ, _≤_, _<_}
 
 pub record Between (a b r : ℕ) : Type 0 where
   pub after : a ≤ r
@@ -17,8 +17,3 @@ pub record Cut (from size room name len next : ℕ) : Type 0 where
   pub fits : len ≤ room
   pub onward : from < next
   pub next-within : next ≤ size
-
-pub record Lesser (a b r : ℕ) : Type 0 where
-  pub first : r ≤ a
-  pub second : r ≤ b
-  pub one : min a b ≤ r

@@ -1,7 +1,8 @@
 //! Lines of test cases: a name, a colon, a word, and bytes in hexadecimal. For the programs that run cases through the library.
+use integers::lesser;
 ghost use Prim.Native.Nat.{_≤_, _<_};
 ghost use lib.ListN.{length};
-ghost use Rattle.case_lines.specs.Line.{Between, Cut, Lesser};
+ghost use Rattle.case_lines.specs.Line.{Between, Cut};
 
 // A line that was read: where its name ends, the first letter of its word, how many bytes it gave, where the next line begins.
 pub struct Line {
@@ -91,12 +92,6 @@ fn read_hex(s: &[u8], from: usize, to: usize, bytes: &mut [u8]) -> usize
         i += 1;
     }
     h.len
-}
-
-fn lesser(a: usize, b: usize) -> usize
-    ensures { λ r. ⌜ Lesser a b r ⌝ }
-{
-    if a <= b { a } else { b }
 }
 
 // Reads the line that begins at `from`.

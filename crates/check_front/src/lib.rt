@@ -1,7 +1,7 @@
 //! The front of a certificate's check: the items 1 to 12 and 20 to 22. `at` is where the certificate begins and the answer's `next` where its
 //! records do.
-pub mod shape;
-pub mod weighing;
+mod shape;
+mod weighing;
 
 use crate::shape::shape_ok;
 use crate::weighing::mapping_item;

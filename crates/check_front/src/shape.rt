@@ -1,11 +1,11 @@
 //! Item 20: the certificate's length, its marks, n and m. The marks are the fixed strings C1 01, C1 02 and C1 03.
 use formats::marks::is_mark;
 use formats::tree::vertex_count;
+use model::Limits;
 use plan::Plan;
 use plan::degree;
 use plan::wide;
 use records::Places;
-use records::Rows;
 use records::begin;
 use records::places_of;
 use records::record_at;
@@ -135,14 +135,14 @@ fn records_marked(recorded: &[u8], found: &[u8], plan: &Plan, places: &Places, z
 
 // The length, the marks, n and m of the certificate that begins at `at` are right. The length is tested first, so that no read goes past the end: it is
 // where the row after the last would begin.
-pub fn shape_ok(recorded: &[u8], found: &[u8], plan: &Plan, z: &[u8], at: usize) -> bool
+pub(crate) fn shape_ok(recorded: &[u8], found: &[u8], plan: &Plan, z: &[u8], at: usize) -> bool
     requires { ⌜ Inputs (now recorded) (now found) (now plan) ⌝ }
     requires { ⌜ at ≡ 0 ⌝ }
     ensures { λ r. ⌜ r ≡ shapeOk (now (recorded .entry)) (now (found .entry)) (now (z .entry)) ⌝ }
 {
     let n = vertex_count(recorded);
     let m = vertex_count(found);
-    let mut places = [[0u32; 2]; Rows::ALL];
+    let mut places = [[0u32; 2]; Limits::BOUNDS];
     places_of(&mut places, recorded, found, plan);
     let long = begin(&places, n);
     if z.len() != long {

@@ -3,6 +3,8 @@ use formats::tree::vertex_count;
 use integers::int32_at;
 use mappings::mapping_ok;
 use mappings::weigh::weigh;
+use model::Limits;
+use model::Mapping;
 use plan::Plan;
 ghost use Prim.Native.Nat.{_+_, _*_, _≤_};
 ghost use mathlib.Core.Path.{_≡_};
@@ -13,12 +15,12 @@ ghost use Rattle.plan.specs.Plan.{Ready};
 ghost use Rattle.check_front.specs.Steps.{PartnersAt, mappingItem};
 
 // The partner bytes of the n records from `at` on, in the first n places.
-fn partners(z: &[u8], at: usize, n: usize) -> [u8; 64]
+fn partners(z: &[u8], at: usize, n: usize) -> Mapping
     requires { ⌜ n ≤ vertexLimit ⌝ }
     requires { ⌜ at + 3 * n ≤ length (now z) ⌝ }
     ensures { λ r. ⌜ PartnersAt (now (z .entry)) at n r ⌝ }
 {
-    let mut p = [model::Limits::NONE; 64];
+    let mut p = [Limits::NONE; Limits::ROWS];
     let mut u: usize = 0;
     while u < n {
         p[u] = z[at + 2 + 3 * u];
@@ -35,7 +37,7 @@ fn same(a: i32, b: i32) -> bool
 }
 
 // The first of the items 21 and 22 that applies, 0 for none. The certificate begins at `at` and has the right length.
-pub fn mapping_item(
+pub(crate) fn mapping_item(
     table: &[u8],
     recorded: &[u8],
     found: &[u8],

@@ -15,7 +15,7 @@ pub struct Reader<'a> {
 
 // Reads the front from the certificate's start, and moves the reader on to its records (not where a table or tree is refused, so that nothing says
 // where they are): the refusal number, 0 where nothing refuses yet.
-pub fn front<'t, 'r, 'f, 's, 'a>(
+fn front<'t, 'r, 'f, 's, 'a>(
     table: &'t [u8],
     recorded: &'r [u8],
     found: &'f [u8],
@@ -31,7 +31,7 @@ pub fn front<'t, 'r, 'f, 's, 'a>(
 }
 
 // Reads the records from where the reader stands, after the front: the refusal number, 0 for a certificate that is accepted.
-pub fn records<'t, 'r, 'f, 'a>(
+fn records<'t, 'r, 'f, 'a>(
     table: &'t [u8],
     recorded: &'r [u8],
     found: &'f [u8],

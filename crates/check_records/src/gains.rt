@@ -1,5 +1,7 @@
 //! The gains of a pair's branches, from the values that the certificate itself records for their subproblems.
 use integers::int32_at;
+use model::Gains;
+use model::Limits;
 use plan::Plan;
 use plan::behind;
 use plan::child_count;
@@ -18,6 +20,7 @@ use records::size;
 ghost use Prim.Native.Nat.{_+_, _*_, _<_};
 ghost use mathlib.Core.Path.{_≡_};
 ghost use lib.ListN.{length};
+ghost use Rattle.model.specs.Limits.{pairLimit};
 ghost use Rattle.model.specs.Graph.{neighbours};
 ghost use Rattle.model.specs.Order.{children, width};
 ghost use Rattle.model.specs.Certificate.{certificateLength, valueIn, valueOf};
@@ -28,7 +31,7 @@ ghost use Rattle.check_records.specs.Gains.{Given, Sits};
 
 // The recorded value of a subproblem of x and the row-th vertex in postorder, whose records begin at `first` and have `own` bytes beside the duals of
 // neighbours: its place among those of that vertex is b.
-pub fn value_in(
+pub(crate) fn value_in(
     recorded: &[u8],
     found: &[u8],
     plan: &Plan,
@@ -53,7 +56,7 @@ pub fn value_in(
 
 // The gains of u's i-th child with each neighbour of v, as row i of the table.
 fn gain_row(
-    g: &mut [u64; 64],
+    g: &mut Gains,
     table: &[u8],
     recorded: &[u8],
     found: &[u8],
@@ -64,7 +67,7 @@ fn gain_row(
     v: u8,
     i: usize,
 )
-    requires { ⌜ length (now g) ≡ 64 ⌝ }
+    requires { ⌜ length (now g) ≡ pairLimit ⌝ }
     requires { ⌜ Given (now table) (now recorded) (now found) (now plan) (now places) (now certificate) ⌝ }
     requires { ⌜ Pair (now recorded) (now found) u v ⌝ }
     requires { ⌜ i < length (children (now recorded) u) ⌝ }
@@ -92,14 +95,14 @@ fn gain_row(
             b,
         );
         let t = gain_of(edge_pair(table, edge, neighbour_edge(plan, v, j)), y);
-        g[i * 8 + j] = t;
+        g[i * Limits::PLACES + j] = t;
         j += 1;
     }
 }
 
-// The gains of u's children with v's neighbours, child i with neighbour j at i * 8 + j.
-pub fn gains(
-    g: &mut [u64; 64],
+// The gains of u's children with v's neighbours, child i with neighbour j at i * PLACES + j.
+pub(crate) fn gains(
+    g: &mut Gains,
     table: &[u8],
     recorded: &[u8],
     found: &[u8],
@@ -109,7 +112,7 @@ pub fn gains(
     u: u8,
     v: u8,
 )
-    requires { ⌜ length (now g) ≡ 64 ⌝ }
+    requires { ⌜ length (now g) ≡ pairLimit ⌝ }
     requires { ⌜ Given (now table) (now recorded) (now found) (now plan) (now places) (now certificate) ⌝ }
     requires { ⌜ Pair (now recorded) (now found) u v ⌝ }
     ensures { λ _. ⌜ Filled (length (children (now (recorded .entry)) u)) (length (neighbours (now (found .entry)) v)) (gainAt (now (table .entry)) (now (recorded .entry)) (now (found .entry)) (valueOf (now (recorded .entry)) (now (found .entry)) (now (certificate .entry))) u v) (now (g .exit)) ⌝ }

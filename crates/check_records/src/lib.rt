@@ -1,7 +1,7 @@
 //! The certificate's check, items 23 and 24: the rules of the subproblems' records, and the greatest value with s = v.
-pub mod gains;
-pub mod record;
-pub mod top;
+mod gains;
+mod record;
+mod top;
 
 use crate::record::records_ok;
 use crate::top::greatest;
@@ -12,7 +12,6 @@ use plan::Plan;
 use planning::make;
 use record_rules::numbers::is_sum;
 use record_rules::numbers::wide;
-use records::Rows;
 use records::places_of;
 ghost use mathlib.Core.Path.{_≡_};
 ghost use lib.ListN.{length};
@@ -27,7 +26,7 @@ fn records_item(table: &[u8], recorded: &[u8], found: &[u8], plan: &Plan, certif
     requires { ⌜ length (now certificate) ≡ certificateLength (now recorded) (now found) ⌝ }
     ensures { λ r. ⌜ r ≡ recordsItem (now (table .entry)) (now (recorded .entry)) (now (found .entry)) (now (certificate .entry)) ⌝ }
 {
-    let mut places = [[0u32; 2]; Rows::ALL];
+    let mut places = [[0u32; 2]; Limits::BOUNDS];
     places_of(&mut places, recorded, found, plan);
     let ok = records_ok(table, recorded, found, plan, &places, certificate);
     if !ok {

@@ -1,6 +1,8 @@
 //! Item 23: the records of a pair of vertices, those of a recorded vertex, and all of them.
 use crate::gains::gains;
 use formats::tree::vertex_count;
+use model::Gains;
+use model::Limits;
 use plan::Plan;
 use plan::child_count;
 use plan::degree;
@@ -33,7 +35,7 @@ fn choices_ok(
     certificate: &[u8],
     i: usize,
     v: u8,
-    g: &[u64; 64],
+    g: &Gains,
     w: i32,
 ) -> bool
     requires { ⌜ Given (now table) (now recorded) (now found) (now plan) (now places) (now certificate) ⌝ }
@@ -71,7 +73,7 @@ fn pair_ok(
 {
     let u = in_order(plan, i);
     let w = vertex_pair(table, recorded, found, u, v);
-    let mut g = [0u64; 64];
+    let mut g = [0u64; Limits::PAIRS];
     gains(
         &mut g,
         table,
@@ -123,7 +125,7 @@ fn row_ok(
 }
 
 // Every record keeps the rules.
-pub fn records_ok(
+pub(crate) fn records_ok(
     table: &[u8],
     recorded: &[u8],
     found: &[u8],

@@ -64,7 +64,7 @@ fn top_of_row(
 }
 
 // Of all recorded vertices.
-pub fn greatest(
+pub(crate) fn greatest(
     recorded: &[u8],
     found: &[u8],
     plan: &Plan,

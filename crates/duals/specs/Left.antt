@@ -8,6 +8,7 @@ use lib.ListN.{length, getD}
 use lib.IntN.{ℤ, pos, _+ℤ_}
 use Rattle.foundations.specs.Members.{place}
 use Rattle.foundations.specs.Sums.{sum}
+use Rattle.model.specs.Limits.{degreeLimit}
 use Rattle.model.specs.Bytes.{byteAt, isMark}
 use Rattle.model.specs.Weights.{none, some}
 use Rattle.model.specs.Tree.{count}
@@ -20,7 +21,7 @@ use Rattle.model.specs.Certificate.{headMark, partnerMark, recordMark, others, 
 -- Duals of subproblem (u, v, s) over the work numbers: y of u's children and z of v's neighbours, each in its place. The dual of s is 0, so that
 -- the sum over all neighbours is that over the others.
 pub record DualsAt (table r f : List ℕ) (work : List ℤ) (u v s : ℕ) (y z : List ℕ) : Type 0 where
-  pub long : (length y ≡ 8) × (length z ≡ 8)
+  pub long : (length y ≡ degreeLimit) × (length z ≡ degreeLimit)
   pub zeros : vertexPair table r f u v ≡ none → ((i : ℕ) → i < length (children r u) → getD y i 0 ≡ 0) × ((j : ℕ) → j < length (neighbours f v) → getD z j 0 ≡ 0)
   pub own : (j : ℕ) → j < length (neighbours f v) → getD (neighbours f v) j 0 ≡ s → getD z j 0 ≡ 0
   pub cover : (w : ℤ) → vertexPair table r f u v ≡ some w → (i j : ℕ) → i < length (children r u) → j < length (neighbours f v) → getD (neighbours f v) j 0 ≢ s → atMost (branch table r f (recalled r f work) u v (getD (children r u) i 0) (getD (neighbours f v) j 0)) (pos (getD y i 0 + getD z j 0)) ≡ true

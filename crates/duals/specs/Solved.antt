@@ -10,6 +10,7 @@ use lib.IntN.{ℤ, pos}
 use borrow.Author.Tests.{eq-eqb, ne-eqb}
 use Rattle.foundations.specs.Int.{ints, canon}
 use Rattle.foundations.specs.Members.{del}
+use Rattle.model.specs.Limits.{degreeLimit, pairLimit}
 use Rattle.model.specs.Weights.{Weight, none, some, plusW, isForbidden}
 use Rattle.model.specs.Graph.{neighbours}
 use Rattle.model.specs.Order.{children, choices}
@@ -30,7 +31,7 @@ use Rattle.duals.specs.Left.{DualsAt}
 
 -- a table of gains of u's children with v's neighbours; a forbidden pair's mean nothing
 pub record PairGains (table r f : List ℕ) (work : List ℤ) (u v : ℕ) (w : ℤ) (g : List ℕ) : Type 0 where
-  pub long : length g ≡ 64
+  pub long : length g ≡ pairLimit
   pub small : (i j : ℕ) → i < length (children r u) → j < length (neighbours f v) → cell g i j ≤ 4294967294
   pub filled : isForbidden w ≡ false → Filled (length (children r u)) (length (neighbours f v)) (gainAt table r f (recalled r f work) u v) g
 
@@ -43,13 +44,13 @@ pub record Matched (k l c : ℕ) (g y z : List ℕ) : Type 0 where
 
 -- for a pair of weight w
 pub record DualsOf (w : ℤ) (k l c : ℕ) (g y z : List ℕ) : Type 0 where
-  pub zeros : isForbidden w ≡ true → (y ≡ replicate 8 0) × (z ≡ replicate 8 0)
+  pub zeros : isForbidden w ≡ true → (y ≡ replicate degreeLimit 0) × (z ≡ replicate degreeLimit 0)
   pub matched : isForbidden w ≡ false → Matched k l c g y z
 
 both-ways : {b : Bool} → b ≡ true → b ≡ false → ⊥
 both-ways e q = true≢false (sym e ∙ q)
 
-pub duals-none : (w : ℤ) (k l c : ℕ) (g : List ℕ) → isForbidden w ≡ true → DualsOf w k l c g (replicate 8 0) (replicate 8 0)
+pub duals-none : (w : ℤ) (k l c : ℕ) (g : List ℕ) → isForbidden w ≡ true → DualsOf w k l c g (replicate degreeLimit 0) (replicate degreeLimit 0)
 duals-none w k l c g e = record { zeros = λ q. (refl, refl); matched = λ q. absurd (both-ways e q) }
 
 pub duals-matched : {w : ℤ} {k l c : ℕ} {g h y z m : List ℕ} → isForbidden w ≡ false → LeftOut k c g h → Answer k l (cell h) y z m → DualsOf w k l c g y z
@@ -60,8 +61,8 @@ zeros-at zero i = refl
 zeros-at (suc n) zero = refl
 zeros-at (suc n) (suc i) = zeros-at n i
 
-pub gains-none : {table r f : List ℕ} {work : List ℤ} {u v : ℕ} {w : ℤ} → isForbidden w ≡ true → PairGains table r f work u v w (replicate 64 0)
-gains-none e = record { long = refl; small = λ i j hi hj. omega (arith, zeros-at 64 (i * 8 + j)); filled = λ q. absurd (both-ways e q) }
+pub gains-none : {table r f : List ℕ} {work : List ℤ} {u v : ℕ} {w : ℤ} → isForbidden w ≡ true → PairGains table r f work u v w (replicate pairLimit 0)
+gains-none e = record { long = refl; small = λ i j hi hj. omega (arith, zeros-at pairLimit (i * degreeLimit + j)); filled = λ q. absurd (both-ways e q) }
 
 pub gains-filled : {table r f : List ℕ} {work : List ℤ} {u v : ℕ} {w : ℤ} {g : List ℕ} → Filled (length (children r u)) (length (neighbours f v)) (gainAt table r f (recalled r f work) u v) g → PairGains table r f work u v w g
 gains-filled D = record { long = D .long; small = λ i j hi hj. D .get i j hi hj .1; filled = λ q. D }
@@ -116,12 +117,12 @@ module _ {table r f : List ℕ} {plan : List (List ℕ)} (N : Ready table r f pl
     at-none : isForbidden w ≡ true → DualsAt table r f work u v s y z
     at-none h =
         let b : vertexPair table r f u v ≡ none = P .is ∙ weighed-none w h in
-        let ey : y ≡ replicate 8 0 = D .zeros h .0 in
-        let ez : z ≡ replicate 8 0 = D .zeros h .1 in
+        let ey : y ≡ replicate degreeLimit 0 = D .zeros h .0 in
+        let ez : z ≡ replicate degreeLimit 0 = D .zeros h .1 in
         record {
           long = (ap length ey, ap length ez);
-          zeros = λ q. (λ i a. rw ey (zeros-at 8 i), λ j a. rw ez (zeros-at 8 j));
-          own = λ j a q. rw ez (zeros-at 8 j);
+          zeros = λ q. (λ i a. rw ey (zeros-at degreeLimit i), λ j a. rw ez (zeros-at degreeLimit j));
+          own = λ j a q. rw ez (zeros-at degreeLimit j);
           cover = λ x q. absurd (none≢some x (sym b ∙ q));
           total = λ x q. absurd (none≢some x (sym b ∙ q));
         }

@@ -1,10 +1,15 @@
 //! The duals of subproblems (the paper's bounds), as the writer of a certificate needs them: the gains of a pair of vertices once, and from them the
 //! duals for each choice of s.
+use assignment::FREE;
+use model::Gains;
+use model::Limits;
+use model::WideRow;
 use plan::Plan;
 use solver::subproblem::gains;
 use solver::subproblem::leave_out;
 ghost use mathlib.Core.Path.{_≡_};
 ghost use lib.ListN.{length};
+ghost use Rattle.model.specs.Limits.{pairLimit};
 ghost use Rattle.plan.specs.Plan.{Ready, Lent, Pair};
 ghost use Rattle.assignment.specs.Matching.{cell};
 ghost use Rattle.solver.specs.Heaviest.{Table};
@@ -12,12 +17,12 @@ ghost use Rattle.duals.specs.Solved.{PairGains, DualsOf};
 
 // The duals of u's children and of v's neighbours, each in its place. What stands in the other places means nothing.
 pub struct Duals {
-    pub children: [u64; 8],
-    pub neighbours: [u64; 8],
+    pub children: WideRow,
+    pub neighbours: WideRow,
 }
 
 // Both rows of duals together.
-fn both(children: [u64; 8], neighbours: [u64; 8]) -> Duals
+fn both(children: WideRow, neighbours: WideRow) -> Duals
     ensures { λ r. ⌜ (r .children ≡ children) × (r .neighbours ≡ neighbours) ⌝ }
 {
     Duals {
@@ -36,13 +41,13 @@ pub fn pair_gains(
     u: u8,
     v: u8,
     w: i32,
-) -> [u64; 64]
+) -> Gains
     requires { ⌜ Ready (now table) (now recorded) (now found) (now plan) ⌝ }
     requires { ⌜ Lent (now recorded) (now found) (now work) ⌝ }
     requires { ⌜ Pair (now recorded) (now found) u v ⌝ }
     ensures { λ r. ⌜ PairGains (now (table .entry)) (now (recorded .entry)) (now (found .entry)) (now (work .entry)) u v w r ⌝ }
 {
-    let mut g = [0u64; 64];
+    let mut g = [0u64; Limits::PAIRS];
     if integers::is_forbidden(w) {
         return g;
     }
@@ -52,19 +57,19 @@ pub fn pair_gains(
 
 // The duals of a pair of weight w with gains g, k children and l neighbours, for choice c of s: those of a heaviest matching without the column that
 // choice c leaves out, and 0 where w is forbidden.
-pub fn duals_of(w: i32, g: &[u64; 64], k: usize, l: usize, c: usize) -> Duals
-    requires { ⌜ length (now g) ≡ 64 ⌝ }
+pub fn duals_of(w: i32, g: &Gains, k: usize, l: usize, c: usize) -> Duals
+    requires { ⌜ length (now g) ≡ pairLimit ⌝ }
     requires { ⌜ Table k l c (cell (now g)) ⌝ }
     ensures { λ r. ⌜ DualsOf w k l c (now (g .entry)) (r .children) (r .neighbours) ⌝ }
 {
     if integers::is_forbidden(w) {
-        return both([0u64; 8], [0u64; 8]);
+        return both([0u64; Limits::PLACES], [0u64; Limits::PLACES]);
     }
     let mut h = *g;
     leave_out(&mut h, k, c);
-    let mut y = [0u64; 8];
-    let mut z = [0u64; 8];
-    let mut m = [8u8; 8];
+    let mut y = [0u64; Limits::PLACES];
+    let mut z = [0u64; Limits::PLACES];
+    let mut m = [FREE; Limits::PLACES];
     assignment::solve(&h, k, l, &mut y, &mut z, &mut m);
     both(y, z)
 }

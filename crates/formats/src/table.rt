@@ -1,4 +1,5 @@
 //! The weight table: items 1 and 2, and access to a table that passes them. Its two blocks have k rows of k weights each, K for vertices and L for edges.
+use model::Limits;
 ghost use mathlib.Core.Path.{_≡_};
 ghost use Prim.Native.Nat.{_+_, _*_, _<_, _≤_, _^_};
 ghost use Rattle.foundations.specs.Lists.{every};
@@ -15,7 +16,7 @@ fn row_length(k: u8) -> usize
 }
 
 // A block of k rows.
-pub fn rows_length(k: u8) -> usize
+pub(crate) fn rows_length(k: u8) -> usize
     ensures { λ r. ⌜ RowsLength k r ⌝ }
 {
     (k as usize) * row_length(k)
@@ -39,13 +40,13 @@ fn is_sized(table: &[u8]) -> bool
     }
     let k = table[2];
     let l = table[3];
-    let k_ok = (1 <= k) & (k <= model::Limits::VERTEX_LABELS);
-    let l_ok = (1 <= l) & (l <= model::Limits::EDGE_LABELS);
+    let k_ok = (1 <= k) & (k <= Limits::VERTEX_LABELS);
+    let l_ok = (1 <= l) & (l <= Limits::EDGE_LABELS);
     k_ok & (l_ok & (table.len() == 4 + rows_length(k) + rows_length(l)))
 }
 
 // K, how many vertex labels there are.
-pub fn vertex_labels(table: &[u8]) -> u8
+pub(crate) fn vertex_labels(table: &[u8]) -> u8
     requires { ⌜ TableSized (now table) ⌝ }
     ensures { λ r. ⌜ r ≡ vertexLabels (now (table .entry)) ⌝ }
 {
@@ -53,7 +54,7 @@ pub fn vertex_labels(table: &[u8]) -> u8
 }
 
 // L, how many edge labels there are.
-pub fn edge_labels(table: &[u8]) -> u8
+pub(crate) fn edge_labels(table: &[u8]) -> u8
     requires { ⌜ TableSized (now table) ⌝ }
     ensures { λ r. ⌜ r ≡ edgeLabels (now (table .entry)) ⌝ }
 {

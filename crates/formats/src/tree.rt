@@ -1,5 +1,7 @@
 //! Why a tree is refused: items 3 to 7, and 8 to 12 for the found tree; its count, labels and edge ends.
 use crate::marks::is_mark;
+use model::Limits;
+use model::VertexTable;
 ghost use Prim.Native.Nat.{_+_, _*_, _<_, _-_};
 ghost use lib.ListN.{getD};
 ghost use lib.Dec.{eqb, ltb};
@@ -57,7 +59,7 @@ fn is_sized(s: &[u8]) -> bool
         return false;
     }
     let n = s[2] as usize;
-    ((1 <= n) & (n <= (model::Limits::VERTICES as usize))) & (s.len() + 2 == 8 * n)
+    ((1 <= n) & (n <= (Limits::VERTICES as usize))) & (s.len() + 2 == 8 * n)
 }
 
 // The number of vertices of a tree of the right length.
@@ -192,12 +194,12 @@ fn renamed(y: u8, from: u8, to: u8) -> u8
 }
 
 // The components with `to` in the place of `from`.
-fn merged(l: [u8; 64], from: u8, to: u8) -> [u8; 64]
+fn merged(l: VertexTable, from: u8, to: u8) -> VertexTable
     ensures { λ r. ⌜ r ≡ tab (λ x. cond (eqb (getD l x 0) from) to (getD l x 0)) vertexLimit ⌝ }
 {
-    let mut r = [0u8; 64];
+    let mut r = [0u8; Limits::ROWS];
     let mut x: usize = 0;
-    while x < model::Limits::ROWS {
+    while x < Limits::ROWS {
         let y = renamed(l[x], from, to);
         r[x] = y;
         x += 1;
@@ -206,12 +208,12 @@ fn merged(l: [u8; 64], from: u8, to: u8) -> [u8; 64]
 }
 
 // Each vertex a component of its own.
-fn own_components() -> [u8; 64]
+fn own_components() -> VertexTable
     ensures { λ r. ⌜ r ≡ tab (λ x. x) vertexLimit ⌝ }
 {
-    let mut r = [0u8; 64];
+    let mut r = [0u8; Limits::ROWS];
     let mut x: usize = 0;
-    while x < model::Limits::ROWS {
+    while x < Limits::ROWS {
         r[x] = x as u8;
         x += 1;
     }
@@ -248,11 +250,11 @@ fn second(a: u8, b: u8) -> u8
 }
 
 // How many edges end at each vertex.
-fn degrees(s: &[u8], n: usize) -> [u8; 64]
+fn degrees(s: &[u8], n: usize) -> VertexTable
     requires { ⌜ Ends (now s) n ⌝ }
     ensures { λ r. ⌜ r ≡ tab (λ v. degree (now (s .entry)) n v (n - 1)) vertexLimit ⌝ }
 {
-    let mut d = [0u8; 64];
+    let mut d = [0u8; Limits::ROWS];
     let mut j: usize = 0;
     while j + 1 < n {
         let a = end_a(s, n, j);
@@ -276,7 +278,7 @@ fn are_edges_few(s: &[u8], n: usize) -> bool
     let mut v: usize = 0;
     while v < n {
         let x = d[v];
-        ok = ok & (x <= model::Limits::DEGREE);
+        ok = ok & (x <= Limits::DEGREE);
         v += 1;
     }
     ok

@@ -85,7 +85,7 @@ pub fn is_forbidden(w: i32) -> bool
 }
 
 // Whether `w` lies between the weight limit's opposite and the limit.
-pub fn in_range(w: i32) -> bool
+fn in_range(w: i32) -> bool
     ensures { λ r. ⌜ r ≡ inRange w ⌝ }
 {
     (-model::Limits::WEIGHT <= w) & (w <= model::Limits::WEIGHT)

@@ -1,4 +1,5 @@
 //! The buffers of a run: what they are filled with, copies and comparisons.
+use integers::lesser;
 ghost use Prim.Native.Nat.{_≤_};
 
 // What fills fresh buffers: a number that is no value and that item 16 refuses, a byte that is no partner.
@@ -7,15 +8,9 @@ const NUMBER: i32 = 2000000000;
 const BYTE: u8 = 200;
 
 // Work numbers that differ from their copy: how many, and the place of the first.
-pub struct Changes {
-    pub count: usize,
-    pub first: usize,
-}
-
-pub fn lesser(a: usize, b: usize) -> usize
-    ensures { λ r. ⌜ (r ≤ a) × (r ≤ b) ⌝ }
-{
-    if a <= b { a } else { b }
+pub(crate) struct Changes {
+    pub(crate) count: usize,
+    pub(crate) first: usize,
 }
 
 pub fn clear_numbers(work: &mut [i32]) {
@@ -55,7 +50,7 @@ fn first_of(first: usize, count: usize, i: usize) -> usize {
     if count == 0 { i } else { first }
 }
 
-pub fn compare(work: &[i32], kept: &[i32]) -> Changes {
+pub(crate) fn compare(work: &[i32], kept: &[i32]) -> Changes {
     let n = lesser(work.len(), kept.len());
     let mut count: usize = 0;
     let mut first: usize = 0;
@@ -69,7 +64,7 @@ pub fn compare(work: &[i32], kept: &[i32]) -> Changes {
 }
 
 // Whether a byte from `from` on is not what fills a fresh buffer.
-pub fn is_written(mapping: &[u8], from: usize) -> bool {
+pub(crate) fn is_written(mapping: &[u8], from: usize) -> bool {
     let mut i = from;
     while i < mapping.len() {
         if mapping[i] != BYTE {

@@ -32,7 +32,7 @@ pub fn second_of(s: &[u8]) -> i32 {
 }
 
 // A signed number without its sign.
-pub fn size_of(x: i32) -> u64 {
+pub(crate) fn size_of(x: i32) -> u64 {
     let mut d = [0u8; 4];
     encode(&mut d, 0, x);
     let bits = word_at(&d, 0);

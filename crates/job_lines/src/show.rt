@@ -2,8 +2,8 @@
 use crate::memory::Changes;
 use crate::memory::compare;
 use crate::memory::is_written;
-use crate::memory::lesser;
 use crate::numbers::size_of;
+use integers::lesser;
 use libc::STDOUT_FILENO;
 use model::AdvanceAnswer;
 use model::JobRecord;

@@ -10,9 +10,9 @@ use model::MatchAnswer;
 use one_call::match_trees;
 
 // A job after slices, and how many advances solved something.
-pub struct Slices {
-    pub job: JobRecord,
-    pub advances: usize,
+pub(crate) struct Slices {
+    pub(crate) job: JobRecord,
+    pub(crate) advances: usize,
 }
 
 // The record after an advance, and whether it solved something.
@@ -22,7 +22,7 @@ struct Slice {
 }
 
 // The match in one call, over fresh work numbers; the mapping buffer is cleared after it.
-pub fn match_cleared(
+pub(crate) fn match_cleared(
     table: &[u8],
     recorded: &[u8],
     found: &[u8],
@@ -89,7 +89,7 @@ fn run_slices(
 }
 
 // A job over fresh work numbers, up to its finish.
-pub fn run_job(
+pub(crate) fn run_job(
     job: JobRecord,
     table: &[u8],
     recorded: &[u8],

@@ -10,6 +10,7 @@ use lib.ListN.{length, getD, take, drop, take-append-drop, length-take, length-d
 use lib.Seq.{take-at, take-take, drop-at, drop-drop, getD-take, take-all}
 use lib.IntN.{ℤ, pos}
 use borrow.Author.Tests.{le-leb, le-ltb, eq-eqb}
+use Rattle.model.specs.Limits.{vertexLimit}
 use Rattle.model.specs.declared.JobRecord.{JobRecord}
 use Rattle.model.specs.declared.AdvanceAnswer.the-variants.{Advanced}
 use Rattle.model.specs.Tree.{count}
@@ -92,7 +93,7 @@ module _ (table r f : List ℕ) (passes : inputItem table r f ≡ 0) (total₀ :
     record-ok =
         let rs = A .recorded .ends in
         let fs = A .found .ends in
-        rw (R .active, R .recorded, R .found, R .here, le-leb 1 (count r) (rs .some), le-leb (count r) 64 (rs .few), le-leb 1 (count f) (fs .some), le-leb (count f) 64 (fs .few), le-leb p (count r * (3 * count f - 2)) (R .low))
+        rw (R .active, R .recorded, R .found, R .here, le-leb 1 (count r) (rs .some), le-leb (count r) vertexLimit (rs .few), le-leb 1 (count f) (fs .some), le-leb (count f) vertexLimit (fs .few), le-leb p (count r * (3 * count f - 2)) (R .low))
 
     trees-ok : sameTrees j r f ≡ true
     unfolding sameTrees

@@ -13,7 +13,7 @@ ghost use Rattle.readout.specs.Read.{WorkFits};
 ghost use Rattle.jobs.specs.Delivery.{Delivered};
 
 // Reads a mapping out from the pair with the largest number, the empty one where none is above 0; the answer is its exact weight.
-pub fn deliver(
+pub(crate) fn deliver(
     table: &[u8],
     recorded: &[u8],
     found: &[u8],

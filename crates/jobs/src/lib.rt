@@ -1,7 +1,7 @@
 //! A job in slices: start, advance and finish (paper 01, "Jobs"), over the record by value. The calls that are lent the record are thin functions over
 //! these: crates/exports, job_calls.
-pub mod delivery;
-pub mod slices;
+mod delivery;
+mod slices;
 
 use crate::delivery::deliver;
 use crate::slices::begun;

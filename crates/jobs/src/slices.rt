@@ -11,7 +11,7 @@ ghost use Rattle.model.specs.Jobs.{started, advanced, totalLimit};
 ghost use Rattle.trees.specs.Accepted.{Sound};
 
 // The smaller of the budget and what is left.
-pub fn slice_of(recorded: &[u8], found: &[u8], position: u32, budget: u32) -> u32
+pub(crate) fn slice_of(recorded: &[u8], found: &[u8], position: u32, budget: u32) -> u32
     requires { ⌜ Sound (now recorded) ⌝ }
     requires { ⌜ Sound (now found) ⌝ }
     requires { ⌜ position ≤ subproblems (now recorded) (now found) ⌝ }
@@ -22,7 +22,7 @@ pub fn slice_of(recorded: &[u8], found: &[u8], position: u32, budget: u32) -> u3
 }
 
 // The record of a job that begins.
-pub fn begun(job: JobRecord, recorded: &[u8], found: &[u8]) -> JobRecord
+pub(crate) fn begun(job: JobRecord, recorded: &[u8], found: &[u8]) -> JobRecord
     ensures { λ r. ⌜ r ≡ started job (now (recorded .entry)) (now (found .entry)) ⌝ }
 {
     let n = byte_or_zero(recorded, 2) as u32;
@@ -48,7 +48,7 @@ fn total_after(total: u32, count: u32) -> u32
 }
 
 // The record after so many subproblems.
-pub fn moved(job: JobRecord, count: u32) -> JobRecord
+pub(crate) fn moved(job: JobRecord, count: u32) -> JobRecord
     requires { ⌜ job .position + count ≤ subproblemLimit ⌝ }
     ensures { λ r. ⌜ r ≡ advanced job count ⌝ }
 {

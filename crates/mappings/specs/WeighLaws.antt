@@ -15,7 +15,7 @@ use Rattle.foundations.specs.Int.{up, dn, int, plus, canon}
 use Rattle.foundations.specs.Sums.{sumℤ, sumℤ-more, pick}
 use Rattle.foundations.specs.Tests.{and-both, and-false}
 use Rattle.model.specs.Graph.{edges, joined, edgeLabel}
-use Rattle.model.specs.Limits.{noVertex, weightLimit, ceiling}
+use Rattle.model.specs.Limits.{noVertex, weightLimit, partLimit, ceiling}
 use Rattle.model.specs.Mapping.{partner, mapped, IsMapping, num, vertexPairs, edgeTerm, edgePairs, weight}
 use Rattle.model.specs.Pairs.{vertexPair, edgePair}
 use Rattle.model.specs.Table.{edgeLabels}
@@ -46,7 +46,7 @@ pub record Modest (z : ℤ) : Type 0 where
   pub high : up z ≤ ceiling
   pub low : dn z ≤ ceiling
 
-pub modest : {k : ℕ} {z r : ℤ} → k ≤ 127 → SumTo k z r → Modest r
+pub modest : {k : ℕ} {z r : ℤ} → k ≤ partLimit → SumTo k z r → Modest r
 modest h s = let a = s .high in let b = s .low in record { high = omega arith; low = omega arith }
 
 pub sum-none : (F : ℕ → ℤ) → SumTo 0 (sumℤ 0 F) (pos 0)

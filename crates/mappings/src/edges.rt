@@ -1,6 +1,7 @@
 //! The edge pairs of a mapping: partners of a vertex and its parent are joined, and no pair of edges is forbidden.
 use crate::vertices::is_mapped;
 use formats::tree::vertex_count;
+use model::Mapping;
 use plan::Plan;
 use plan::neighbour_edge;
 use plan::parent;
@@ -53,7 +54,7 @@ fn edge_ok(
     recorded: &[u8],
     found: &[u8],
     plan: &Plan,
-    mapping: &[u8; 64],
+    mapping: &Mapping,
     u: u8,
 ) -> bool
     requires { ⌜ Ready (now table) (now recorded) (now found) (now plan) ⌝ }
@@ -79,12 +80,12 @@ fn edge_ok(
 }
 
 // So it is for every recorded vertex.
-pub fn edges_ok(
+pub(crate) fn edges_ok(
     table: &[u8],
     recorded: &[u8],
     found: &[u8],
     plan: &Plan,
-    mapping: &[u8; 64],
+    mapping: &Mapping,
 ) -> bool
     requires { ⌜ Ready (now table) (now recorded) (now found) (now plan) ⌝ }
     ensures { λ r. ⌜ r ≡ every (λ u. edgeOk (now (table .entry)) (now (recorded .entry)) (now (found .entry)) (now (mapping .entry)) u (parent (now (recorded .entry)) u)) (count (now (recorded .entry))) ⌝ }

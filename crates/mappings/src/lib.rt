@@ -1,13 +1,14 @@
 //! Mappings: item 21, whether n bytes are one, tested without paths, and a mapping's exact weight (`weigh`). `vertices` tests the pairs of
 //! vertices, `edges` those of edges; a mapping has at most one top, which is a mapped vertex whose parent is not mapped.
-pub mod edges;
-pub mod vertices;
+mod edges;
+mod vertices;
 pub mod weigh;
 
 use crate::edges::edges_ok;
 use crate::vertices::is_mapped;
 use crate::vertices::vertices_ok;
 use formats::tree::vertex_count;
+use model::Mapping;
 use plan::Plan;
 use plan::parent;
 ghost use Prim.Native.Nat.{_+_, _<_, _≤_};
@@ -22,7 +23,7 @@ ghost use Rattle.plan.specs.Plan.{Ready};
 ghost use Rattle.mappings.specs.Tested.{Above};
 
 // u is mapped and no parent of it is.
-fn is_top(recorded: &[u8], plan: &Plan, mapping: &[u8; 64], u: u8) -> bool
+fn is_top(recorded: &[u8], plan: &Plan, mapping: &Mapping, u: u8) -> bool
     requires { ⌜ Above (now recorded) (now plan) ⌝ }
     requires { ⌜ u < count (now recorded) ⌝ }
     ensures { λ r. ⌜ r ≡ isTop (now (recorded .entry)) (now (mapping .entry)) u ⌝ }
@@ -41,7 +42,7 @@ fn one_more(k: usize, b: bool) -> usize
 }
 
 // How many tops there are.
-fn tops(recorded: &[u8], plan: &Plan, mapping: &[u8; 64]) -> usize
+fn tops(recorded: &[u8], plan: &Plan, mapping: &Mapping) -> usize
     requires { ⌜ Above (now recorded) (now plan) ⌝ }
     ensures { λ r. ⌜ r ≡ cnt (isTop (now (recorded .entry)) (now (mapping .entry))) (count (now (recorded .entry))) ⌝ }
 {
@@ -62,7 +63,7 @@ pub fn mapping_ok(
     recorded: &[u8],
     found: &[u8],
     plan: &Plan,
-    mapping: &[u8; 64],
+    mapping: &Mapping,
 ) -> bool
     requires { ⌜ Ready (now table) (now recorded) (now found) (now plan) ⌝ }
     requires { ⌜ count (now recorded) ≤ length (now mapping) ⌝ }

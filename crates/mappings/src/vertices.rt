@@ -1,5 +1,7 @@
 //! The vertex pairs of a mapping: partners are found vertices, each once, and no pair is forbidden.
 use formats::tree::vertex_count;
+use model::Limits;
+use model::Mapping;
 use plan::weights::vertex_pair;
 ghost use Prim.Native.Nat.{_<_};
 ghost use mathlib.Core.Path.{_≡_};
@@ -12,7 +14,7 @@ ghost use Rattle.formats.specs.Inputs.{Accepted};
 ghost use Rattle.mappings.specs.Tested.{isNew};
 
 // The partner of u, 255 for none.
-fn partner_of(mapping: &[u8; 64], u: u8) -> u8
+fn partner_of(mapping: &Mapping, u: u8) -> u8
     requires { ⌜ u < vertexLimit ⌝ }
     ensures { λ r. ⌜ r ≡ partner (now (mapping .entry)) u ⌝ }
 {
@@ -20,11 +22,11 @@ fn partner_of(mapping: &[u8; 64], u: u8) -> u8
 }
 
 // u has a partner.
-pub fn is_mapped(mapping: &[u8; 64], u: u8) -> bool
+pub(crate) fn is_mapped(mapping: &Mapping, u: u8) -> bool
     requires { ⌜ u < vertexLimit ⌝ }
     ensures { λ r. ⌜ r ≡ mapped (now (mapping .entry)) u ⌝ }
 {
-    mapping[u as usize] != model::Limits::NONE
+    mapping[u as usize] != Limits::NONE
 }
 
 // The pair of u and v is allowed.
@@ -38,7 +40,7 @@ fn pair_allowed(table: &[u8], recorded: &[u8], found: &[u8], u: u8, v: u8) -> bo
 }
 
 // No vertex before u has its partner.
-fn is_new(mapping: &[u8; 64], u: u8) -> bool
+fn is_new(mapping: &Mapping, u: u8) -> bool
     requires { ⌜ u < vertexLimit ⌝ }
     ensures { λ r. ⌜ r ≡ isNew (now (mapping .entry)) u ⌝ }
 {
@@ -53,13 +55,13 @@ fn is_new(mapping: &[u8; 64], u: u8) -> bool
 }
 
 // The partner of u is a found vertex, that of no vertex before u, and the pair is allowed.
-fn vertex_ok(table: &[u8], recorded: &[u8], found: &[u8], mapping: &[u8; 64], u: u8) -> bool
+fn vertex_ok(table: &[u8], recorded: &[u8], found: &[u8], mapping: &Mapping, u: u8) -> bool
     requires { ⌜ Accepted (now table) (now recorded) (now found) ⌝ }
     requires { ⌜ u < count (now recorded) ⌝ }
     ensures { λ r. ⌜ r ≡ vertexOk (now (table .entry)) (now (recorded .entry)) (now (found .entry)) (now (mapping .entry)) u ⌝ }
 {
     let v = partner_of(mapping, u);
-    if v == model::Limits::NONE {
+    if v == Limits::NONE {
         return true;
     }
     let m = vertex_count(found);
@@ -72,7 +74,7 @@ fn vertex_ok(table: &[u8], recorded: &[u8], found: &[u8], mapping: &[u8; 64], u:
 }
 
 // So it is for every recorded vertex.
-pub fn vertices_ok(table: &[u8], recorded: &[u8], found: &[u8], mapping: &[u8; 64]) -> bool
+pub(crate) fn vertices_ok(table: &[u8], recorded: &[u8], found: &[u8], mapping: &Mapping) -> bool
     requires { ⌜ Accepted (now table) (now recorded) (now found) ⌝ }
     ensures { λ r. ⌜ r ≡ every (vertexOk (now (table .entry)) (now (recorded .entry)) (now (found .entry)) (now (mapping .entry))) (count (now (recorded .entry))) ⌝ }
 {

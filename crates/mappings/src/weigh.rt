@@ -3,6 +3,7 @@ use formats::tree::edge_label_at;
 use formats::tree::end_a;
 use formats::tree::end_b;
 use formats::tree::vertex_count;
+use model::Limits;
 use plan::Plan;
 use plan::neighbour_edge;
 use plan::slot;
@@ -41,7 +42,7 @@ fn vertex_term(table: &[u8], recorded: &[u8], found: &[u8], mapping: &[u8], u: u
     ensures { λ r. ⌜ SumTo 1 (vertexTerm (now (table .entry)) (now (recorded .entry)) (now (found .entry)) (take (count (now (recorded .entry))) (now (mapping .entry))) u) r ⌝ }
 {
     let v = partner_of(mapping, u);
-    if v == model::Limits::NONE {
+    if v == Limits::NONE {
         return 0;
     }
     vertex_pair(table, recorded, found, u, v)
@@ -80,10 +81,10 @@ fn edge_term(
     let n = vertex_count(recorded);
     let a = partner_of(mapping, end_a(recorded, n, j));
     let b = partner_of(mapping, end_b(recorded, n, j));
-    if a == model::Limits::NONE {
+    if a == Limits::NONE {
         return 0;
     }
-    if b == model::Limits::NONE {
+    if b == Limits::NONE {
         return 0;
     }
     let c = slot(plan, a, b);

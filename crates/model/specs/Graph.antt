@@ -43,16 +43,16 @@ edgeLabel s v w = edgeLabelAt s (count s) (edgeOf s v w)
 
 -- ---- neighbours are kept as eight places for each of 64 vertices
 
--- eight places: a list's first eight, then 255
-abbrev pub eight : List ℕ → List ℕ
-eight l = places degreeLimit noVertex l
+-- a list's first eight, as many as there are places, then 255
+abbrev pub inPlaces : List ℕ → List ℕ
+inPlaces l = places degreeLimit noVertex l
 
 unfoldable pub neighbourTable : List ℕ → List (List ℕ)
-neighbourTable s = tab (λ v. eight (neighbours s v)) vertexLimit
+neighbourTable s = tab (λ v. inPlaces (neighbours s v)) vertexLimit
 
 -- in the same places the label of the edge to that neighbour, and 255 in a free place
 unfoldable pub labelOfPlace : List ℕ → ℕ → ℕ → ℕ
 labelOfPlace s v w = cond (eqb w noVertex) noVertex (edgeLabel s v w)
 
 unfoldable pub edgeLabelTable : List ℕ → List (List ℕ)
-edgeLabelTable s = tab (λ v. tab (λ i. labelOfPlace s v (getD (eight (neighbours s v)) i 0)) degreeLimit) vertexLimit
+edgeLabelTable s = tab (λ v. tab (λ i. labelOfPlace s v (getD (inPlaces (neighbours s v)) i 0)) degreeLimit) vertexLimit

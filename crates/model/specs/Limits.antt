@@ -1,6 +1,6 @@
 -- The numbers that paper 01 fixes for tables, trees and weights, each named once for the definitions, and what follows from them. The code has the
 -- same in src/lib.rt as far as it uses them (`weights` and `sizes` there). A job's total has its limit in `Jobs`.
-use Prim.Native.Nat.{ℕ, _+_, _*_, _-_}
+use Prim.Native.Nat.{ℕ, _+_, _*_, _-_, _/_, _%_}
 use lib.IntN.{ℤ, negsuc}
 
 -- a weight lies between -weightLimit and weightLimit, or is the forbidden number -2,147,483,648
@@ -13,10 +13,6 @@ forbiddenRank = 2147483647
 
 abbrev pub forbidden : ℤ
 forbidden = negsuc forbiddenRank
-
--- no stored value is greater: 127 is for 64 vertices and 63 edges of the greatest weight
-abbrev pub ceiling : ℕ
-ceiling = 127 * weightLimit
 
 -- K, the paper's device kinds; L, its line kinds; n, its devices of a layout; its lines of a device
 abbrev pub vertexLabelLimit : ℕ
@@ -37,6 +33,18 @@ noVertex = 255
 
 -- ---- what follows from them
 
+-- the vertices and edges of a tree, 127 (64 and 63)
+abbrev pub partLimit : ℕ
+partLimit = 2 * vertexLimit - 1
+
+-- no stored value is greater: each of these of the greatest weight, 127,000,000
+abbrev pub ceiling : ℕ
+ceiling = partLimit * weightLimit
+
+-- the pairs of a child of one vertex with a neighbour of another
+abbrev pub pairLimit : ℕ
+pairLimit = degreeLimit * degreeLimit
+
 -- the most subproblems of a recorded vertex, 3m - 2, and in all, n(3m - 2): 190 and 12,160
 abbrev pub widthLimit : ℕ
 widthLimit = 3 * vertexLimit - 2
@@ -49,9 +57,16 @@ subproblemLimit = vertexLimit * widthLimit
 abbrev pub dualLimit : ℕ
 dualLimit = ceiling + weightLimit
 
--- the most that the squares of a tree's degrees add up to, 616 for 64 vertices of degree at most 8: eight vertices of degree 8, one of 7 and 55 of 1 (theorem `squares-most`)
+-- the most that the squares of a tree's degrees add up to, 616 (theorem `squares-most`). The degrees of n vertices are 1 each and n - 2 more in all; as
+-- many vertices as can have the greatest degree, one has what is left, and the others have 1: eight of degree 8, one of 7 and 55 of 1
+abbrev pub hubLimit : ℕ
+hubLimit = (vertexLimit - 2) / (degreeLimit - 1)
+
+abbrev pub restLimit : ℕ
+restLimit = (vertexLimit - 2) % (degreeLimit - 1) + 1
+
 abbrev pub squareLimit : ℕ
-squareLimit = 8 * (degreeLimit * degreeLimit) + 7 * 7 + 55
+squareLimit = hubLimit * (degreeLimit * degreeLimit) + restLimit * restLimit + (vertexLimit - hubLimit - 1)
 
 -- the longest certificate, 278,736: `certificateLength` at these (theorem `length-most`)
 abbrev pub certificateLimit : ℕ

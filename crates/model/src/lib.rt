@@ -3,7 +3,7 @@
 ghost use mathlib.Core.Path.{_≡_};
 ghost use lib.IntN.{pos};
 ghost use Rattle.model.specs.Jobs.{freshRecord, totalLimit};
-ghost use Rattle.model.specs.Limits.{weightLimit, forbidden, ceiling, vertexLabelLimit, edgeLabelLimit, vertexLimit, degreeLimit, noVertex, subproblemLimit};
+ghost use Rattle.model.specs.Limits.{weightLimit, forbidden, ceiling, vertexLabelLimit, edgeLabelLimit, vertexLimit, degreeLimit, noVertex, pairLimit, subproblemLimit};
 
 // The numbers that the paper fixes. The definitions have the same in specs/Limits.antt (`weights` and `sizes` below).
 pub struct Limits {}
@@ -13,8 +13,8 @@ impl Limits {
     pub const WEIGHT: i32 = 1000000;
 
     pub const FORBIDDEN: i32 = -2147483648;
-    // No stored value is greater.
-    pub const CEILING: i32 = 127 * Limits::WEIGHT;
+    // No stored value is greater: a tree of VERTICES vertices, and as many edges less one, of the greatest weight.
+    pub const CEILING: i32 = (2 * (Limits::VERTICES as i32) - 1) * Limits::WEIGHT;
     // Device kinds (K), line kinds (L), devices of a layout (n), lines of a device.
     pub const VERTEX_LABELS: u8 = 32;
 
@@ -27,11 +27,33 @@ impl Limits {
     pub const ROWS: usize = Limits::VERTICES as usize;
 
     pub const PLACES: usize = Limits::DEGREE as usize;
+    // A number for each vertex and one after the last, as where each one's share begins and where the last one's ends.
+    pub const BOUNDS: usize = Limits::ROWS + 1;
+    // The pairs of a child with a neighbour of two vertices.
+    pub const PAIRS: usize = Limits::PLACES * Limits::PLACES;
     // The most subproblems, n(3m - 2): work numbers that are enough for any two trees.
     pub const SUBPROBLEMS: usize = Limits::ROWS * (3 * Limits::ROWS - 2);
     // What stands where there is no vertex: in a free place, and for a vertex without partner.
     pub const NONE: u8 = 255;
 }
+
+// A byte for each place of a vertex: its neighbours, then NONE; or what belongs to each of them.
+pub type Row = [u8; Limits::PLACES];
+
+// Such a row for each vertex of a tree.
+pub type PlaceTable = [Row; Limits::ROWS];
+
+// A byte for each vertex of a tree, as in an order of the vertices.
+pub type VertexTable = [u8; Limits::ROWS];
+
+// The partner of each recorded vertex, or NONE.
+pub type Mapping = [u8; Limits::ROWS];
+
+// A number for each place, as the duals of a vertex's children or neighbours.
+pub type WideRow = [u64; Limits::PLACES];
+
+// The gain of child i with neighbour j at i * PLACES + j.
+pub type Gains = [u64; Limits::PAIRS];
 
 // A job's state, which belongs to the caller (the paper's job record). n and m are the vertices of the recorded and the found tree, position the
 // number of its subproblems solved so far, total that of the subproblems solved in all its jobs.
@@ -112,5 +134,6 @@ fn sizes()
     ensures { λ _. do ⌜ (← ⟦Limits::VERTICES⟧ .exit) ≡ vertexLimit ⌝ }
     ensures { λ _. do ⌜ (← ⟦Limits::DEGREE⟧ .exit) ≡ degreeLimit ⌝ }
     ensures { λ _. do ⌜ (← ⟦Limits::NONE⟧ .exit) ≡ noVertex ⌝ }
+    ensures { λ _. do ⌜ (← ⟦Limits::PAIRS⟧ .exit) ≡ pairLimit ⌝ }
     ensures { λ _. do ⌜ (← ⟦Limits::SUBPROBLEMS⟧ .exit) ≡ subproblemLimit ⌝ }
 {}

@@ -14,7 +14,7 @@ use Rattle.foundations.specs.Tests.{same?}
 use Rattle.foundations.specs.Int.{up}
 use Rattle.foundations.specs.Members.{mem, mem-there, getD-mem}
 use Rattle.model.specs.Bytes.{int32At}
-use Rattle.model.specs.Limits.{vertexLimit, degreeLimit}
+use Rattle.model.specs.Limits.{vertexLimit, degreeLimit, pairLimit}
 use Rattle.model.specs.Weights.{Weight, none, some, weighed, plusW, isForbidden, weightOk}
 use Rattle.model.specs.Table.{vertexLabels, edgeLabels, edgeWeight, vertexWeight, vertexRow, edgeRow, column}
 use Rattle.model.specs.Tree.{count, vertexLabel, endA, endB, edgeLabelAt}
@@ -126,41 +126,41 @@ gain-number edge value r e h g = record { is = rw (e, h) (g .is); small = g .sma
 unfoldable pub gainAt : List ℕ → List ℕ → List ℕ → (ℕ → ℕ → ℕ → Weight) → ℕ → ℕ → ℕ → ℕ → ℕ
 gainAt table r f given u v i j = upW (branch table r f given u v (getD (children r u) i 0) (getD (neighbours f v) j 0))
 
--- ---- a table of gains, 8 in a row
+-- ---- a table of gains, row after row
 
 abbrev pub cell : List ℕ → ℕ → ℕ → ℕ
-cell g i j = getD g (i * 8 + j) 0
+cell g i j = getD g (i * degreeLimit + j) 0
 
 -- the first n of row i are F's, the other rows are as before
 pub record RowFilled (n i : ℕ) (F : ℕ → ℕ) (g r : List ℕ) : Type 0 where
-  pub long : length r ≡ 64
+  pub long : length r ≡ pairLimit
   pub here : (j : ℕ) → j < n → (cell r i j ≡ F j) × (cell r i j ≤ 4294967294)
-  pub other : (q j : ℕ) → q ≢ i → j < 8 → cell r q j ≡ cell g q j
+  pub other : (q j : ℕ) → q ≢ i → j < degreeLimit → cell r q j ≡ cell g q j
 
-pub row-none : (i : ℕ) (F : ℕ → ℕ) (g : List ℕ) → length g ≡ 64 → RowFilled 0 i F g g
+pub row-none : (i : ℕ) (F : ℕ → ℕ) (g : List ℕ) → length g ≡ pairLimit → RowFilled 0 i F g g
 row-none i F g e = record { long = e; here = λ j h. absurd (not-suc-le-zero h); other = λ q j n h. refl }
 
-pub row-more : (j i v : ℕ) (F : ℕ → ℕ) (g r : List ℕ) → i < 8 → j < 8 → RowFilled j i F g r → v ≡ F j → v ≤ 4294967294 → RowFilled (j + 1) i F g (set r (i * 8 + j) v)
+pub row-more : (j i v : ℕ) (F : ℕ → ℕ) (g r : List ℕ) → i < degreeLimit → j < degreeLimit → RowFilled j i F g r → v ≡ F j → v ≤ 4294967294 → RowFilled (j + 1) i F g (set r (i * degreeLimit + j) v)
 row-more j i v F g r hi hj R e b =
-    let n : length r ≡ 64 = R .long in
+    let n : length r ≡ pairLimit = R .long in
     record {
-      long = length-set r (i * 8 + j) v ∙ n;
+      long = length-set r (i * degreeLimit + j) v ∙ n;
       here = λ x l. ⊎-elim
-          (λ q. let c : cell (set r (i * 8 + j) v) i x ≡ v = ap (λ (y : ℕ). getD (set r (i * 8 + j) v) (i * 8 + y) 0) q ∙ getD-set-same r (i * 8 + j) v 0 (omega arith) in (c ∙ e ∙ ap F (sym q), omega arith))
-          (λ q. let c : cell (set r (i * 8 + j) v) i x ≡ cell r i x = getD-set-other r (i * 8 + j) (i * 8 + x) v 0 (λ p. q (omega arith)) in let h = R .here x (omega arith) in (c ∙ h .0, omega (arith, h .1)))
+          (λ q. let c : cell (set r (i * degreeLimit + j) v) i x ≡ v = ap (λ (y : ℕ). getD (set r (i * degreeLimit + j) v) (i * degreeLimit + y) 0) q ∙ getD-set-same r (i * degreeLimit + j) v 0 (omega arith) in (c ∙ e ∙ ap F (sym q), omega arith))
+          (λ q. let c : cell (set r (i * degreeLimit + j) v) i x ≡ cell r i x = getD-set-other r (i * degreeLimit + j) (i * degreeLimit + x) v 0 (λ p. q (omega arith)) in let h = R .here x (omega arith) in (c ∙ h .0, omega (arith, h .1)))
           (same? x j);
-      other = λ q x ne h. getD-set-other r (i * 8 + j) (q * 8 + x) v 0 (λ p. ne (omega arith)) ∙ R .other q x ne h;
+      other = λ q x ne h. getD-set-other r (i * degreeLimit + j) (q * degreeLimit + x) v 0 (λ p. ne (omega arith)) ∙ R .other q x ne h;
     }
 
 -- the first n rows are F's
 pub record Filled (n l : ℕ) (F : ℕ → ℕ → ℕ) (r : List ℕ) : Type 0 where
-  pub long : length r ≡ 64
+  pub long : length r ≡ pairLimit
   pub get : (i j : ℕ) → i < n → j < l → (cell r i j ≡ F i j) × (cell r i j ≤ 4294967294)
 
-pub filled-none : (l : ℕ) (F : ℕ → ℕ → ℕ) (r : List ℕ) → length r ≡ 64 → Filled 0 l F r
+pub filled-none : (l : ℕ) (F : ℕ → ℕ → ℕ) (r : List ℕ) → length r ≡ pairLimit → Filled 0 l F r
 filled-none l F r e = record { long = e; get = λ i j h. absurd (not-suc-le-zero h) }
 
-pub filled-more : (n l : ℕ) (F : ℕ → ℕ → ℕ) (g r : List ℕ) → l ≤ 8 → Filled n l F g → RowFilled l n (F n) g r → Filled (n + 1) l F r
+pub filled-more : (n l : ℕ) (F : ℕ → ℕ → ℕ) (g r : List ℕ) → l ≤ degreeLimit → Filled n l F g → RowFilled l n (F n) g r → Filled (n + 1) l F r
 filled-more n l F g r hl D R = record {
   long = R .long;
   get = λ i j hi hj. ⊎-elim

@@ -1,4 +1,4 @@
--- The plan of two trees: what a call looks up in them, as 512 rows of eight numbers: eight blocks of 64 rows, a row for each vertex, the first four
+-- The plan of two trees: what a call looks up in them, as rows of a number for each place: eight blocks of a row for each vertex, the first four
 -- of the recorded tree and the others of the found tree. Only this file, `src/` and `planning` know where a number stands; all else goes by the laws
 -- of `Planned`. Assumes nothing.
 use mathlib.Core.Path.{_≡_}
@@ -14,6 +14,13 @@ use Rattle.model.specs.Order.{children, parent, postorder, position, offset, sl
 use Rattle.model.specs.Calls.{inputItem}
 
 -- ---- where a number stands
+
+-- the rows of all blocks; those of the found tree begin at the first of its four
+abbrev pub planRows : ℕ
+planRows = 8 * vertexLimit
+
+abbrev pub foundRow : ℕ
+foundRow = 4 * vertexLimit
 
 -- recorded vertex u: how many children it has, its place in the postorder, the vertex that stands u-th in the postorder, its parent, and the label
 -- of the edge to the parent
@@ -44,10 +51,10 @@ childPlaceIn plan u i = getD (getD plan (3 * vertexLimit + u) []) i 0
 
 -- found vertex v: how many neighbours it has, and where its subproblems begin among those of one recorded vertex
 abbrev pub degreeIn : List (List ℕ) → ℕ → ℕ
-degreeIn plan v = getD (getD plan (4 * vertexLimit + v) []) 0 0
+degreeIn plan v = getD (getD plan (foundRow + v) []) 0 0
 
 abbrev pub offsetIn : List (List ℕ) → ℕ → ℕ
-offsetIn plan v = getD (getD plan (4 * vertexLimit + v) []) 1 0
+offsetIn plan v = getD (getD plan (foundRow + v) []) 1 0
 
 -- its j-th neighbour: the vertex, the label of the edge to it, and where the subproblem behind it stands
 abbrev pub neighbourIn : List (List ℕ) → ℕ → ℕ → ℕ

@@ -1,4 +1,4 @@
-//! The plan of two trees: what a call looks up in them, as rows of eight bytes, made once (crates/planning). A recorded half and a found half, each of
+//! The plan of two trees: what a call looks up in them, as rows of a byte for each place, made once (crates/planning). A recorded half and a found half, each of
 //! its own tree alone. `specs/Plan.antt` says where a number stands and what it is; nothing above knows where. Beside it the weights of pairs
 //! (`weights`) and the numbers that follow from the vertex counts (`counts`).
 pub mod counts;

@@ -15,9 +15,9 @@ use borrow.Author.Tests.{eq-eqb, ne-eqb, lt-ltb, le-ltb}
 use Rattle.foundations.specs.Tests.{same?, less?}
 use Rattle.foundations.specs.Lists.{below-ext, cat, cat-filter, gather, gather-places, getD-tab}
 use Rattle.foundations.specs.Members.{mem, getD-mem, mem-occ, place, place-low, place-at, place-one, distinct-occ, mem-ne}
-use Rattle.model.specs.Limits.{noVertex, vertexLimit, widthLimit}
+use Rattle.model.specs.Limits.{noVertex, vertexLimit, widthLimit, degreeLimit}
 use Rattle.model.specs.Tree.{count}
-use Rattle.model.specs.Graph.{joined, edges, neighbours, neighbourTable, edgeLabelTable, edgeLabel, eight}
+use Rattle.model.specs.Graph.{joined, edges, neighbours, neighbourTable, edgeLabelTable, edgeLabel, inPlaces}
 use Rattle.model.specs.Order.{children, parent, position, offset, slot, width}
 use Rattle.trees.specs.Accepted.{Passed}
 use Rattle.trees.specs.Neighbours.{mem-adjacent, adjacent-mem, adjacent-back, few-neighbours, neighbour-at, free-at, label-at, joined-says, once-neighbours}
@@ -27,9 +27,9 @@ use Rattle.trees.specs.Positions.{offset-up, offset-all, position-child, positi
 -- ---- the taken places of a row
 
 pub record TakenPlaces (row : List ℕ) (k : ℕ) : Type 0 where
-  pub few : k ≤ 8
+  pub few : k ≤ degreeLimit
   pub before : (i : ℕ) → i < k → getD row i 0 ≡ noVertex → ⊥
-  pub stop : k < 8 → getD row k 0 ≡ noVertex
+  pub stop : k < degreeLimit → getD row k 0 ≡ noVertex
 
 -- ---- an accepted tree
 
@@ -43,20 +43,20 @@ module _ (s : List ℕ) (K L : ℕ) (p : Passed s K L) where
     where
       less : k < length (neighbours s v) → ⊥
       less l =
-          let few : count s ≤ 64 = p .ends .few in
-          let d : length (neighbours s v) ≤ 8 = few-neighbours s K L p v lv in
+          let few : count s ≤ vertexLimit = p .ends .few in
+          let d : length (neighbours s v) ≤ degreeLimit = few-neighbours s K L p v lv in
           let a : getD (getD (neighbourTable s) v []) k 0 ≡ getD (neighbours s v) k 0 = neighbour-at s K L p v k lv l in
           let b : getD (neighbours s v) k 0 < count s = neighbour-low v k l in
-          let e : getD (getD (neighbourTable s) v []) k 0 ≡ 255 = t .stop (omega arith) in
+          let e : getD (getD (neighbourTable s) v []) k 0 ≡ noVertex = t .stop (omega arith) in
           omega arith
 
       more : length (neighbours s v) < k → ⊥
-      more l = let few : k ≤ 8 = t .few in t .before (length (neighbours s v)) l (free-at s K L p v (length (neighbours s v)) lv (omega arith) (omega arith))
+      more l = let few : k ≤ degreeLimit = t .few in t .before (length (neighbours s v)) l (free-at s K L p v (length (neighbours s v)) lv (omega arith) (omega arith))
 
   pub offset-small : (v : ℕ) → v ≤ count s → offset s v ≤ widthLimit
   unfolding width
   offset-small v h =
-      let few : count s ≤ 64 = p .ends .few in
+      let few : count s ≤ vertexLimit = p .ends .few in
       let all : offset s (count s) ≡ 3 * count s - 2 = offset-all s (p .ends) (p .tree) in
       ⊎-elim (λ e. rw e (omega arith)) (λ n. let up = offset-up s v (count s) (omega arith) in omega arith) (same? v (count s))
 
@@ -64,7 +64,7 @@ module _ (s : List ℕ) (K L : ℕ) (p : Passed s K L) where
 
 -- up to vertex n
 pub record Starts (f : List ℕ) (n : ℕ) (r : List ℕ) : Type 0 where
-  pub long : length r ≡ 65
+  pub long : length r ≡ vertexLimit + 1
   pub offsets : (v : ℕ) → v ≤ n → getD r v 0 ≡ offset f v
   pub small : (v : ℕ) → getD r v 0 ≤ widthLimit
 
@@ -73,15 +73,15 @@ zeros zero v = refl
 zeros (suc n) zero = refl
 zeros (suc n) (suc v) = zeros n v
 
-pub starts-none : (f r : List ℕ) → length r ≡ 65 → ((v : ℕ) → getD r v 0 ≡ 0) → Starts f 0 r
+pub starts-none : (f r : List ℕ) → length r ≡ vertexLimit + 1 → ((v : ℕ) → getD r v 0 ≡ 0) → Starts f 0 r
 unfolding offset
 starts-none f r e z = record { long = e; offsets = λ v h. let q : v ≡ 0 = omega arith in rw q (z 0); small = λ v. rw (z v) (omega arith) }
 
 pub starts-more : (f : List ℕ) (K L : ℕ) → Passed f K L → (v : ℕ) (r : List ℕ) (k x : ℕ) → v < count f → Starts f v r → TakenPlaces (getD (neighbourTable f) v []) k → x ≡ getD r v 0 + 1 + k → Starts f (v + 1) (set r (v + 1) x)
 unfolding offset
 starts-more f K L p v r k x l S t e =
-    let n : length r ≡ 65 = S .long in
-    let few : count f ≤ 64 = p .ends .few in
+    let n : length r ≡ vertexLimit + 1 = S .long in
+    let few : count f ≤ vertexLimit = p .ends .few in
     let a : getD r v 0 ≡ offset f v = S .offsets v (omega arith) in
     let b : k ≡ length (neighbours f v) = taken-neighbours f K L p v k l t in
     let g : x ≡ offset f (suc v) = omega arith in
@@ -101,7 +101,7 @@ starts-more f K L p v r k x l S t e =
 -- ---- children in their places
 
 unfoldable pub placeOr : List ℕ → ℕ → ℕ
-placeOr place w = cond (ltb w 64) (getD place w 0) 255
+placeOr place w = cond (ltb w vertexLimit) (getD place w 0) noVertex
 
 unfoldable pub nextOf : ℕ → ℕ → ℕ → ℕ
 nextOf c p own = cond (ltb p own) (c + 1) c
@@ -126,9 +126,9 @@ pub record ChildAt (row labels place : List ℕ) (i : ℕ) (label base vertex w 
 pub record ChildrenTo (row labels place : List ℕ) (own i c : ℕ) (label base vertex : List ℕ) : Type 0 where
   pub used : c ≡ length (childrenAmong row place own i)
   pub few : c ≤ i
-  pub label-long : length label ≡ 8
-  pub base-long : length base ≡ 8
-  pub vertex-long : length vertex ≡ 8
+  pub label-long : length label ≡ degreeLimit
+  pub base-long : length base ≡ degreeLimit
+  pub vertex-long : length vertex ≡ degreeLimit
   pub get : (j : ℕ) → j < c → ChildAt row labels place i (getD label j 0) (getD base j 0) (getD vertex j 0) (getD (childrenAmong row place own i) j 0)
 
 among-yes : (row place : List ℕ) (own i : ℕ) → ltb (placeOr place (getD row i 0)) own ≡ true → childrenAmong row place own (i + 1) ≡ childrenAmong row place own i ++ (getD row i 0 ∷ [])
@@ -139,7 +139,7 @@ among-no : (row place : List ℕ) (own i : ℕ) → ltb (placeOr place (getD row
 unfolding childrenAmong gather childAmong
 among-no row place own i h = rw (add-one, gather, h) (append-nil _)
 
-pub children-none : (row labels place : List ℕ) (own : ℕ) (label base vertex : List ℕ) → length label ≡ 8 → length base ≡ 8 → length vertex ≡ 8 → ChildrenTo row labels place own 0 0 label base vertex
+pub children-none : (row labels place : List ℕ) (own : ℕ) (label base vertex : List ℕ) → length label ≡ degreeLimit → length base ≡ degreeLimit → length vertex ≡ degreeLimit → ChildrenTo row labels place own 0 0 label base vertex
 unfolding childrenAmong gather
 children-none row labels place own label base vertex a b c = record { used = refl; few = omega arith; label-long = a; base-long = b; vertex-long = c; get = λ j h. absurd (not-suc-le-zero h) }
 
@@ -153,7 +153,7 @@ child-kept row labels place own i c label base vertex x y z k j h =
     rw (getD-set-other label c j x 0 n, getD-set-other base c j y 0 n, getD-set-other vertex c j z 0 n) (child-after (k .get j h))
 
 -- one place more: what stands at c is counted or not
-pub children-more : (row labels place : List ℕ) (own i c : ℕ) (label base vertex : List ℕ) (w p y d : ℕ) → i < 8 → ChildrenTo row labels place own i c label base vertex → w ≡ getD row i 0 → p ≡ placeOr place w → y ≡ p → d ≡ nextOf c p own → ChildrenTo row labels place own (i + 1) d (set label c (getD labels i 0)) (set base c y) (set vertex c w)
+pub children-more : (row labels place : List ℕ) (own i c : ℕ) (label base vertex : List ℕ) (w p y d : ℕ) → i < degreeLimit → ChildrenTo row labels place own i c label base vertex → w ≡ getD row i 0 → p ≡ placeOr place w → y ≡ p → d ≡ nextOf c p own → ChildrenTo row labels place own (i + 1) d (set label c (getD labels i 0)) (set base c y) (set vertex c w)
 unfolding nextOf
 children-more row labels place own i c label base vertex w p y d h k ew ep ey ed = go (ltb p own) refl
   where
@@ -171,9 +171,9 @@ children-more row labels place own i c label base vertex w p y d h k ew ep ey ed
         let all : childrenAmong row place own (i + 1) ≡ childrenAmong row place own i ++ (getD row i 0 ∷ []) = among-yes row place own i (test ∙ e) in
         let long : length (childrenAmong row place own i ++ (getD row i 0 ∷ [])) ≡ length (childrenAmong row place own i) + 1 = length-append (childrenAmong row place own i) (getD row i 0 ∷ []) in
         let u : c ≡ length (childrenAmong row place own i) = k .used in
-        let la : length label ≡ 8 = k .label-long in
-        let lb : length base ≡ 8 = k .base-long in
-        let lv : length vertex ≡ 8 = k .vertex-long in
+        let la : length label ≡ degreeLimit = k .label-long in
+        let lb : length base ≡ degreeLimit = k .base-long in
+        let lv : length vertex ≡ degreeLimit = k .vertex-long in
         let dd : d ≡ c + 1 = ed ∙ rw e in
         record {
           used = rw all (omega arith);
@@ -219,7 +219,7 @@ pub record ChildIs (r : List ℕ) (u c label base : ℕ) : Type 0 where
 
 pub record ChildrenAre (r : List ℕ) (u c : ℕ) (label base vertex : List ℕ) : Type 0 where
   pub used : c ≡ length (children r u)
-  pub few : c ≤ 8
+  pub few : c ≤ degreeLimit
   pub names : (i : ℕ) → i < c → getD vertex i 0 ≡ getD (children r u) i 0
   pub get : (i : ℕ) → i < c → ChildIs r u (getD (children r u) i 0) (getD label i 0) (getD base i 0)
 
@@ -231,7 +231,7 @@ cat-each (x ∷ l) = rw (cat-each l)
 module _ (r : List ℕ) (K L : ℕ) (p : Passed r K L) (place : List ℕ) (placed : (u : ℕ) → u < count r → getD place u 0 ≡ position r u) where
   place-is : (w : ℕ) → w < count r → placeOr place w ≡ position r w
   unfolding placeOr
-  place-is w l = let few : count r ≤ 64 = p .ends .few in rw (lt-ltb w 64 (omega arith)) (placed w l)
+  place-is w l = let few : count r ≤ vertexLimit = p .ends .few in rw (lt-ltb w vertexLimit (omega arith)) (placed w l)
 
   -- a neighbour is a child exactly if it comes before u
   child-first : (u w : ℕ) → u < count r → w < count r → (joined r u w && ltb (placeOr place w) (position r u)) ≡ (joined r u w && not (eqb w (parent r u)))
@@ -256,43 +256,43 @@ module _ (r : List ℕ) (K L : ℕ) (p : Passed r K L) (place : List ℕ) (place
           (λ m. rw (ne-eqb w (parent r u) (other m), lt-ltb (position r w) (position r u) (before m)))
           (one-above r (p .ends) (p .tree) u w (joined-says r (count r) u w (edges r) e)))
 
-  among-children : (u : ℕ) → u < count r → childrenAmong (getD (neighbourTable r) u []) place (position r u) 8 ≡ children r u
+  among-children : (u : ℕ) → u < count r → childrenAmong (getD (neighbourTable r) u []) place (position r u) degreeLimit ≡ children r u
   unfolding childrenAmong childAmong children neighbours neighbourTable
   among-children u l =
-      let few : count r ≤ 64 = p .ends .few in
-      ap (λ (row : List ℕ). gather (childAmong place (position r u)) row 8) (getD-tab (λ x. eight (neighbours r x)) vertexLimit u [] (omega arith))
-      ∙ gather-places (childAmong place (position r u)) 8 255 (neighbours r u) (few-neighbours r K L p u l) free
+      let few : count r ≤ vertexLimit = p .ends .few in
+      ap (λ (row : List ℕ). gather (childAmong place (position r u)) row degreeLimit) (getD-tab (λ x. inPlaces (neighbours r x)) vertexLimit u [] (omega arith))
+      ∙ gather-places (childAmong place (position r u)) degreeLimit noVertex (neighbours r u) (few-neighbours r K L p u l) free
       ∙ cat-filter (λ w. w ∷ []) (λ w. joined r u w) (λ w. ltb (placeOr place w) (position r u)) (count r)
       ∙ cat-each _
       ∙ below-ext _ _ (count r) (λ w lw. child-first u w l lw)
     where
-      free : childAmong place (position r u) 255 ≡ []
-      free = unfold childAmong in unfold placeOr in (let q : position r u < count r = position-low r (p .ends) (p .tree) u l in let few : count r ≤ 64 = p .ends .few in rw (le-ltb 255 (position r u) (omega arith)))
+      free : childAmong place (position r u) noVertex ≡ []
+      free = unfold childAmong in unfold placeOr in (let q : position r u < count r = position-low r (p .ends) (p .tree) u l in let few : count r ≤ vertexLimit = p .ends .few in rw (le-ltb noVertex (position r u) (omega arith)))
 
 -- ---- behind a found vertex's neighbours
 
--- the first place of v in a row, or 8
+-- the first place of v in a row, or `degreeLimit`
 pub record At (row : List ℕ) (v k : ℕ) : Type 0 where
-  pub few : k ≤ 8
+  pub few : k ≤ degreeLimit
   pub before : (i : ℕ) → i < k → getD row i 0 ≡ v → ⊥
-  pub here : k < 8 → getD row k 0 ≡ v
+  pub here : k < degreeLimit → getD row k 0 ≡ v
 
 pub record Behind (rows : List (List ℕ)) (starts : List ℕ) (v x r : ℕ) : Type 0 where
   pub at : ℕ
-  pub found : x < 64 → At (getD rows x []) v at
-  pub is : x < 64 → r ≡ getD starts x 0 + 1 + at
-  pub small : r ≤ 255
+  pub found : x < vertexLimit → At (getD rows x []) v at
+  pub is : x < vertexLimit → r ≡ getD starts x 0 + 1 + at
+  pub small : r ≤ noVertex
 
 pub record BehindTo (rows : List (List ℕ)) (starts : List ℕ) (v j : ℕ) (r : List ℕ) : Type 0 where
-  pub long : length r ≡ 8
+  pub long : length r ≡ degreeLimit
   pub get : (i : ℕ) → i < j → Behind rows starts v (getD (getD rows v []) i 0) (getD r i 0)
 
-pub behind-none : (rows : List (List ℕ)) (starts : List ℕ) (v : ℕ) (r : List ℕ) → length r ≡ 8 → BehindTo rows starts v 0 r
+pub behind-none : (rows : List (List ℕ)) (starts : List ℕ) (v : ℕ) (r : List ℕ) → length r ≡ degreeLimit → BehindTo rows starts v 0 r
 behind-none rows starts v r e = record { long = e; get = λ i l. absurd (not-suc-le-zero l) }
 
-pub behind-more : (rows : List (List ℕ)) (starts : List ℕ) (v j : ℕ) (r : List ℕ) (b : ℕ) → j < 8 → BehindTo rows starts v j r → Behind rows starts v (getD (getD rows v []) j 0) b → BehindTo rows starts v (j + 1) (set r j b)
+pub behind-more : (rows : List (List ℕ)) (starts : List ℕ) (v j : ℕ) (r : List ℕ) (b : ℕ) → j < degreeLimit → BehindTo rows starts v j r → Behind rows starts v (getD (getD rows v []) j 0) b → BehindTo rows starts v (j + 1) (set r j b)
 behind-more rows starts v j r b h B N =
-    let n : length r ≡ 8 = B .long in
+    let n : length r ≡ degreeLimit = B .long in
     record {
       long = length-set r j b ∙ n;
       get = λ i l. ⊎-elim
@@ -304,23 +304,23 @@ behind-more rows starts v j r b h B N =
 -- ---- and in an accepted tree
 
 module _ (r : List ℕ) (K L : ℕ) (p : Passed r K L) (place : List ℕ) (placed : (u : ℕ) → u < count r → getD place u 0 ≡ position r u) where
-  pub children-are : (u c : ℕ) (label base vertex : List ℕ) → u < count r → ChildrenTo (getD (neighbourTable r) u []) (getD (edgeLabelTable r) u []) place (position r u) 8 c label base vertex → ChildrenAre r u c label base vertex
+  pub children-are : (u c : ℕ) (label base vertex : List ℕ) → u < count r → ChildrenTo (getD (neighbourTable r) u []) (getD (edgeLabelTable r) u []) place (position r u) degreeLimit c label base vertex → ChildrenAre r u c label base vertex
   children-are u c label base vertex lu k =
-      let all : childrenAmong (getD (neighbourTable r) u []) place (position r u) 8 ≡ children r u = among-children r K L p place placed u lu in
+      let all : childrenAmong (getD (neighbourTable r) u []) place (position r u) degreeLimit ≡ children r u = among-children r K L p place placed u lu in
       let used : c ≡ length (children r u) = k .used ∙ ap length all in
       record {
         used = used;
         few = k .few;
         names = λ i l. k .get i l .is ∙ ap (λ (m : List ℕ). getD m i 0) all;
-        get = λ i l. kid (getD (children r u) i 0) _ _ _ (getD-mem (children r u) i (omega arith)) (subst (λ (m : List ℕ). ChildAt (getD (neighbourTable r) u []) (getD (edgeLabelTable r) u []) place 8 (getD label i 0) (getD base i 0) (getD vertex i 0) (getD m i 0)) all (k .get i l));
+        get = λ i l. kid (getD (children r u) i 0) _ _ _ (getD-mem (children r u) i (omega arith)) (subst (λ (m : List ℕ). ChildAt (getD (neighbourTable r) u []) (getD (edgeLabelTable r) u []) place degreeLimit (getD label i 0) (getD base i 0) (getD vertex i 0) (getD m i 0)) all (k .get i l));
       }
     where
-      kid : (w a b x : ℕ) → T (mem w (children r u)) → ChildAt (getD (neighbourTable r) u []) (getD (edgeLabelTable r) u []) place 8 a b x w → ChildIs r u w a b
+      kid : (w a b x : ℕ) → T (mem w (children r u)) → ChildAt (getD (neighbourTable r) u []) (getD (edgeLabelTable r) u []) place degreeLimit a b x w → ChildIs r u w a b
       kid w a b x m q =
           let low : w < count r = child-of r (p .ends) (p .tree) u w lu m .0 in
-          let few : count r ≤ 64 = p .ends .few in
-          let in8 : q .from < 8 = q .low in
-          let here : q .from < length (neighbours r u) = ⊎-elim (λ l. l) (λ l. let e : getD (getD (neighbourTable r) u []) (q .from) 0 ≡ 255 = free-at r K L p u (q .from) lu l in8 in let n = q .name in absurd (omega arith)) (less? (q .from) (length (neighbours r u))) in
+          let few : count r ≤ vertexLimit = p .ends .few in
+          let in-row : q .from < degreeLimit = q .low in
+          let here : q .from < length (neighbours r u) = ⊎-elim (λ l. l) (λ l. let e : getD (getD (neighbourTable r) u []) (q .from) 0 ≡ noVertex = free-at r K L p u (q .from) lu l in-row in let n = q .name in absurd (omega arith)) (less? (q .from) (length (neighbours r u))) in
           let name : w ≡ getD (neighbours r u) (q .from) 0 = q .name ∙ neighbour-at r K L p u (q .from) lu here in
           record {
             child = m;
@@ -334,12 +334,12 @@ module _ (f : List ℕ) (K L : ℕ) (p : Passed f K L) (starts : List ℕ) (offs
   behind-is v x b lv m B =
       let q = mem-adjacent f v x m in
       let lx : x < count f = q .0 in
-      let few : count f ≤ 64 = p .ends .few in
+      let few : count f ≤ vertexLimit = p .ends .few in
       let back : T (mem v (neighbours f x)) = adjacent-mem f (p .ends) x v (adjacent-back f v x (q .1)) in
       let i = place v (neighbours f x) in
       let low : i < length (neighbours f x) = place-low v (neighbours f x) (mem-occ v (neighbours f x) back) in
       let at : getD (neighbours f x) i 0 ≡ v = place-at v (neighbours f x) (mem-occ v (neighbours f x) back) in
-      let d : length (neighbours f x) ≤ 8 = few-neighbours f K L p x lx in
+      let d : length (neighbours f x) ≤ degreeLimit = few-neighbours f K L p x lx in
       let A = B .found (omega arith) in
       let le : B .at ≤ i = ⊎-elim (λ l. absurd (A .before i l (neighbour-at f K L p x i lx low ∙ at))) (λ l. l) (less? i (B .at)) in
       let here : getD (neighbours f x) (B .at) 0 ≡ v = sym (neighbour-at f K L p x (B .at) lx (omega arith)) ∙ A .here (omega arith) in

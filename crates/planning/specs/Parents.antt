@@ -10,7 +10,7 @@ use lib.Dec.{ltb}
 use borrow.Author.Tests.{lt-ltb, le-ltb, ltb-true}
 use Rattle.foundations.specs.Tests.{same?, less?, and-split}
 use Rattle.foundations.specs.Members.{place, mem-occ, place-at, place-low, getD-mem}
-use Rattle.model.specs.Limits.{noVertex, vertexLimit}
+use Rattle.model.specs.Limits.{noVertex, vertexLimit, degreeLimit}
 use Rattle.model.specs.Tree.{count}
 use Rattle.model.specs.Graph.{neighbours, edgeLabel, neighbourTable, edgeLabelTable}
 use Rattle.model.specs.Order.{parent, position}
@@ -25,23 +25,23 @@ use Rattle.trees.specs.Positions.{position-child}
 unfoldable pub isLater : List ℕ → ℕ → ℕ → Bool
 isLater at own w = ltb w vertexLimit && ltb own (getD at w 0)
 
--- the first place of a row whose vertex comes after `own`, 8 for none
+-- the first place of a row whose vertex comes after `own`, `degreeLimit` for none
 pub record LaterAt (row at : List ℕ) (own k : ℕ) : Type 0 where
-  pub few : k ≤ 8
+  pub few : k ≤ degreeLimit
   pub before : (i : ℕ) → i < k → isLater at own (getD row i 0) ≡ true → ⊥
-  pub here : k < 8 → isLater at own (getD row k 0) ≡ true
+  pub here : k < degreeLimit → isLater at own (getD row k 0) ≡ true
 
 -- what stands in place k, 0 where k is no place
 unfoldable pub atOr : List ℕ → ℕ → ℕ
-atOr row k = cond (ltb k 8) (getD row k 0) 0
+atOr row k = cond (ltb k degreeLimit) (getD row k 0) 0
 
-pub at-some : (row : List ℕ) (k : ℕ) → k < 8 → atOr row k ≡ getD row k 0
+pub at-some : (row : List ℕ) (k : ℕ) → k < degreeLimit → atOr row k ≡ getD row k 0
 unfolding atOr
-at-some row k h = rw (lt-ltb k 8 h)
+at-some row k h = rw (lt-ltb k degreeLimit h)
 
-pub at-none : (row : List ℕ) (k : ℕ) → 8 ≤ k → atOr row k ≡ 0
+pub at-none : (row : List ℕ) (k : ℕ) → degreeLimit ≤ k → atOr row k ≡ 0
 unfolding atOr
-at-none row k h = rw (le-ltb k 8 h)
+at-none row k h = rw (le-ltb k degreeLimit h)
 
 -- ---- in an accepted tree
 
@@ -72,7 +72,7 @@ module _ (s : List ℕ) (K L : ℕ) (p : Passed s K L) (at : List ℕ) (placed :
 
   module _ (u k : ℕ) (l : u < count s) (F : LaterAt (getD (neighbourTable s) u []) at (position s u) k) where
     -- a place that comes after is one of the neighbours', and its vertex the parent
-    here-parent : k < 8 → (k < length (neighbours s u)) × (getD (neighbours s u) k 0 ≡ parent s u) × (u ≢ 0)
+    here-parent : k < degreeLimit → (k < length (neighbours s u)) × (getD (neighbours s u) k 0 ≡ parent s u) × (u ≢ 0)
     here-parent h =
         let t = F .here h in
         let in-row : k < length (neighbours s u) = ⊎-elim (λ b. b) (λ b. absurd (low-later (position s u) (getD (getD (neighbourTable s) u []) k 0) t (free-at s K L p u k l b h))) (less? k (length (neighbours s u))) in
@@ -81,10 +81,10 @@ module _ (s : List ℕ) (K L : ℕ) (p : Passed s K L) (at : List ℕ) (placed :
         (in-row, sym (q .0), q .1)
 
     -- a vertex but the root has such a place
-    has-later : u ≢ 0 → k < 8
+    has-later : u ≢ 0 → k < degreeLimit
     has-later z =
         let o = mem-occ (parent s u) (neighbours s u) (adjacent-mem s (p .ends) u (parent s u) (up-edge s (p .ends) (p .tree) u l z)) in
-        let few : length (neighbours s u) ≤ 8 = few-neighbours s K L p u l in
+        let few : length (neighbours s u) ≤ degreeLimit = few-neighbours s K L p u l in
         let i = place (parent s u) (neighbours s u) in
         let li : i < length (neighbours s u) = place-low (parent s u) (neighbours s u) o in
         let e : getD (getD (neighbourTable s) u []) i 0 ≡ parent s u = neighbour-at s K L p u i l li ∙ place-at (parent s u) (neighbours s u) o in
@@ -94,7 +94,7 @@ module _ (s : List ℕ) (K L : ℕ) (p : Passed s K L) (at : List ℕ) (placed :
     parent-at = ⊎-elim
         (λ h. let q = here-parent h in at-some (getD (neighbourTable s) u []) k h ∙ neighbour-at s K L p u k l (q .0) ∙ q .1)
         (λ h. at-none (getD (neighbourTable s) u []) k h ∙ ⊎-elim (λ z. sym (ap (parent s) z ∙ root-parent s (p .ends) (p .tree))) (λ z. absurd (let b = has-later z in omega arith)) (same? u 0))
-        (less? k 8)
+        (less? k degreeLimit)
 
     pub parent-edge-at : u ≢ 0 → atOr (getD (edgeLabelTable s) u []) k ≡ edgeLabel s u (parent s u)
     parent-edge-at z =

@@ -2,21 +2,21 @@
 use mathlib.Core.Path.{_≡_, refl, _∙_}
 use mathlib.Core.Logic.{⊎-elim, _≢_}
 use mathlib.Core.List.{List, []}
-use Prim.Native.Nat.{ℕ, _+_, _≤_, _<_}
+use Prim.Native.Nat.{ℕ, _+_, _*_, _≤_, _<_}
 use native.Mathlib.Omega.{arith}
 use native.Mathlib.Nat.{not-suc-le-zero}
 use lib.ListN.{length, getD, set, length-set}
 use lib.Seq.{getD-set-same, getD-set-other}
 use Rattle.foundations.specs.Tests.{same?}
 use Rattle.foundations.specs.Members.{getD-mem}
-use Rattle.model.specs.Limits.{widthLimit}
+use Rattle.model.specs.Limits.{widthLimit, degreeLimit, vertexLimit}
 use Rattle.model.specs.Tree.{count}
 use Rattle.model.specs.Graph.{neighbours, neighbourTable, edgeLabelTable}
 use Rattle.model.specs.Order.{children, postorder, position, offset}
 use Rattle.trees.specs.Accepted.{Sound}
 use Rattle.trees.specs.Neighbours.{few-neighbours, neighbour-at, label-at}
 use Rattle.trees.specs.Visits.{OrderOf, Ordered, ordered, ordered-different, Different, Placed, placed-position}
-use Rattle.plan.specs.Plan.{RecordedIn, FoundIn, Planned}
+use Rattle.plan.specs.Plan.{planRows, foundRow, RecordedIn, FoundIn, Planned}
 use Rattle.planning.specs.Parents.{LaterAt, atOr, parent-at, parent-edge-at}
 use Rattle.planning.specs.Making.{TakenPlaces, taken-neighbours, Starts, ChildrenTo, ChildrenAre, children-are, BehindTo, behind-is}
 
@@ -36,57 +36,57 @@ pub record FoundRead (f : List ℕ) (rows labels : List (List ℕ)) (starts : Li
   pub offsets : (v : ℕ) → v ≤ count f → getD starts v 0 ≡ offset f v
   pub small : (v : ℕ) → getD starts v 0 ≤ widthLimit
 
--- ---- a vertex's four rows, 64 apart; the first is row h
+-- ---- a vertex's four rows, one in each block; the first is row h
 
 abbrev pub stored : ℕ → ℕ → ℕ → List (List ℕ) → List ℕ → List ℕ → List ℕ → List ℕ → List (List ℕ)
-stored h a u plan w x y z = set (set (set (set plan h w) (a + 64 + u) x) (a + 128 + u) y) (a + 192 + u) z
+stored h a u plan w x y z = set (set (set (set plan h w) (a + vertexLimit + u) x) (a + 2 * vertexLimit + u) y) (a + 3 * vertexLimit + u) z
 
 module _ (h a u : ℕ) (plan : List (List ℕ)) (w x y z : List ℕ) where
   pub stored-long : length (stored h a u plan w x y z) ≡ length plan
   stored-long =
-      length-set (set (set (set plan h w) (a + 64 + u) x) (a + 128 + u) y) (a + 192 + u) z
-      ∙ length-set (set (set plan h w) (a + 64 + u) x) (a + 128 + u) y
-      ∙ length-set (set plan h w) (a + 64 + u) x
+      length-set (set (set (set plan h w) (a + vertexLimit + u) x) (a + 2 * vertexLimit + u) y) (a + 3 * vertexLimit + u) z
+      ∙ length-set (set (set plan h w) (a + vertexLimit + u) x) (a + 2 * vertexLimit + u) y
+      ∙ length-set (set plan h w) (a + vertexLimit + u) x
       ∙ length-set plan h w
 
   -- what is none of the four stays
-  pub stored-other : (i : ℕ) → i ≢ h → i ≢ a + 64 + u → i ≢ a + 128 + u → i ≢ a + 192 + u → getD (stored h a u plan w x y z) i [] ≡ getD plan i []
+  pub stored-other : (i : ℕ) → i ≢ h → i ≢ a + vertexLimit + u → i ≢ a + 2 * vertexLimit + u → i ≢ a + 3 * vertexLimit + u → getD (stored h a u plan w x y z) i [] ≡ getD plan i []
   stored-other i p q r s =
-      getD-set-other (set (set (set plan h w) (a + 64 + u) x) (a + 128 + u) y) (a + 192 + u) i z [] s
-      ∙ getD-set-other (set (set plan h w) (a + 64 + u) x) (a + 128 + u) i y [] r
-      ∙ getD-set-other (set plan h w) (a + 64 + u) i x [] q
+      getD-set-other (set (set (set plan h w) (a + vertexLimit + u) x) (a + 2 * vertexLimit + u) y) (a + 3 * vertexLimit + u) i z [] s
+      ∙ getD-set-other (set (set plan h w) (a + vertexLimit + u) x) (a + 2 * vertexLimit + u) i y [] r
+      ∙ getD-set-other (set plan h w) (a + vertexLimit + u) i x [] q
       ∙ getD-set-other plan h i w [] p
 
-  module _ (first : h ≡ a + u) (room : a + 192 + u < length plan) where
+  module _ (first : h ≡ a + u) (room : a + 3 * vertexLimit + u < length plan) where
     pub stored-1 : getD (stored h a u plan w x y z) h [] ≡ w
     stored-1 =
-        getD-set-other (set (set (set plan h w) (a + 64 + u) x) (a + 128 + u) y) (a + 192 + u) h z [] (λ e. omega arith)
-        ∙ getD-set-other (set (set plan h w) (a + 64 + u) x) (a + 128 + u) h y [] (λ e. omega arith)
-        ∙ getD-set-other (set plan h w) (a + 64 + u) h x [] (λ e. omega arith)
+        getD-set-other (set (set (set plan h w) (a + vertexLimit + u) x) (a + 2 * vertexLimit + u) y) (a + 3 * vertexLimit + u) h z [] (λ e. omega arith)
+        ∙ getD-set-other (set (set plan h w) (a + vertexLimit + u) x) (a + 2 * vertexLimit + u) h y [] (λ e. omega arith)
+        ∙ getD-set-other (set plan h w) (a + vertexLimit + u) h x [] (λ e. omega arith)
         ∙ getD-set-same plan h w [] (omega arith)
 
-    pub stored-2 : getD (stored h a u plan w x y z) (a + 64 + u) [] ≡ x
+    pub stored-2 : getD (stored h a u plan w x y z) (a + vertexLimit + u) [] ≡ x
     stored-2 =
         let n : length (set plan h w) ≡ length plan = length-set plan h w in
-        getD-set-other (set (set (set plan h w) (a + 64 + u) x) (a + 128 + u) y) (a + 192 + u) (a + 64 + u) z [] (λ e. omega arith)
-        ∙ getD-set-other (set (set plan h w) (a + 64 + u) x) (a + 128 + u) (a + 64 + u) y [] (λ e. omega arith)
-        ∙ getD-set-same (set plan h w) (a + 64 + u) x [] (omega arith)
+        getD-set-other (set (set (set plan h w) (a + vertexLimit + u) x) (a + 2 * vertexLimit + u) y) (a + 3 * vertexLimit + u) (a + vertexLimit + u) z [] (λ e. omega arith)
+        ∙ getD-set-other (set (set plan h w) (a + vertexLimit + u) x) (a + 2 * vertexLimit + u) (a + vertexLimit + u) y [] (λ e. omega arith)
+        ∙ getD-set-same (set plan h w) (a + vertexLimit + u) x [] (omega arith)
 
-    pub stored-3 : getD (stored h a u plan w x y z) (a + 128 + u) [] ≡ y
+    pub stored-3 : getD (stored h a u plan w x y z) (a + 2 * vertexLimit + u) [] ≡ y
     stored-3 =
-        let n : length (set (set plan h w) (a + 64 + u) x) ≡ length plan = length-set (set plan h w) (a + 64 + u) x ∙ length-set plan h w in
-        getD-set-other (set (set (set plan h w) (a + 64 + u) x) (a + 128 + u) y) (a + 192 + u) (a + 128 + u) z [] (λ e. omega arith)
-        ∙ getD-set-same (set (set plan h w) (a + 64 + u) x) (a + 128 + u) y [] (omega arith)
+        let n : length (set (set plan h w) (a + vertexLimit + u) x) ≡ length plan = length-set (set plan h w) (a + vertexLimit + u) x ∙ length-set plan h w in
+        getD-set-other (set (set (set plan h w) (a + vertexLimit + u) x) (a + 2 * vertexLimit + u) y) (a + 3 * vertexLimit + u) (a + 2 * vertexLimit + u) z [] (λ e. omega arith)
+        ∙ getD-set-same (set (set plan h w) (a + vertexLimit + u) x) (a + 2 * vertexLimit + u) y [] (omega arith)
 
-    pub stored-4 : getD (stored h a u plan w x y z) (a + 192 + u) [] ≡ z
+    pub stored-4 : getD (stored h a u plan w x y z) (a + 3 * vertexLimit + u) [] ≡ z
     stored-4 =
-        let n : length (set (set (set plan h w) (a + 64 + u) x) (a + 128 + u) y) ≡ length plan = length-set (set (set plan h w) (a + 64 + u) x) (a + 128 + u) y ∙ length-set (set plan h w) (a + 64 + u) x ∙ length-set plan h w in
-        getD-set-same (set (set (set plan h w) (a + 64 + u) x) (a + 128 + u) y) (a + 192 + u) z [] (omega arith)
+        let n : length (set (set (set plan h w) (a + vertexLimit + u) x) (a + 2 * vertexLimit + u) y) ≡ length plan = length-set (set (set plan h w) (a + vertexLimit + u) x) (a + 2 * vertexLimit + u) y ∙ length-set (set plan h w) (a + vertexLimit + u) x ∙ length-set plan h w in
+        getD-set-same (set (set (set plan h w) (a + vertexLimit + u) x) (a + 2 * vertexLimit + u) y) (a + 3 * vertexLimit + u) z [] (omega arith)
 
 -- ---- the recorded tree's
 
 -- the laws of u read its four rows alone
-recorded-same : (r : List ℕ) (plan plan′ : List (List ℕ)) (u : ℕ) → getD plan′ u [] ≡ getD plan u [] → getD plan′ (64 + u) [] ≡ getD plan (64 + u) [] → getD plan′ (128 + u) [] ≡ getD plan (128 + u) [] → getD plan′ (192 + u) [] ≡ getD plan (192 + u) [] → RecordedIn r plan u → RecordedIn r plan′ u
+recorded-same : (r : List ℕ) (plan plan′ : List (List ℕ)) (u : ℕ) → getD plan′ u [] ≡ getD plan u [] → getD plan′ (vertexLimit + u) [] ≡ getD plan (vertexLimit + u) [] → getD plan′ (2 * vertexLimit + u) [] ≡ getD plan (2 * vertexLimit + u) [] → getD plan′ (3 * vertexLimit + u) [] ≡ getD plan (3 * vertexLimit + u) [] → RecordedIn r plan u → RecordedIn r plan′ u
 recorded-same r plan plan′ u a b c d R = record {
   child-count = rw a (R .child-count);
   few = R .few;
@@ -109,21 +109,21 @@ pub record Head (row : List ℕ) (c own at up label : ℕ) : Type 0 where
 
 -- the first u vertices' rows, and the found half as it was
 pub record RecordedHalf (r : List ℕ) (old plan : List (List ℕ)) (u : ℕ) : Type 0 where
-  pub long : length plan ≡ 512
+  pub long : length plan ≡ planRows
   pub get : (x : ℕ) → x < u → RecordedIn r plan x
-  pub kept : (x : ℕ) → 256 ≤ x → getD plan x [] ≡ getD old x []
+  pub kept : (x : ℕ) → foundRow ≤ x → getD plan x [] ≡ getD old x []
 
-pub recorded-none : (r : List ℕ) (plan : List (List ℕ)) → length plan ≡ 512 → RecordedHalf r plan plan 0
+pub recorded-none : (r : List ℕ) (plan : List (List ℕ)) → length plan ≡ planRows → RecordedHalf r plan plan 0
 recorded-none r plan e = record { long = e; get = λ x h. absurd (not-suc-le-zero h); kept = λ x h. refl }
 
 pub recorded-more : {r : List ℕ} {rows labels : List (List ℕ)} {order place : List ℕ} → RecordedRead r rows labels order place → (old plan : List (List ℕ)) (u : ℕ) → u < count r → RecordedHalf r old plan u
-    → (c : ℕ) (label at vertex head : List ℕ) (k : ℕ) → ChildrenTo (getD rows u []) (getD labels u []) place (getD place u 0) 8 c label at vertex → LaterAt (getD rows u []) place (getD place u 0) k
+    → (c : ℕ) (label at vertex head : List ℕ) (k : ℕ) → ChildrenTo (getD rows u []) (getD labels u []) place (getD place u 0) degreeLimit c label at vertex → LaterAt (getD rows u []) place (getD place u 0) k
     → Head head c (getD place u 0) (getD order u 0) (atOr (getD rows u []) k) (atOr (getD labels u []) k)
-    → RecordedHalf r old (set (set (set (set plan u head) (64 + u) vertex) (128 + u) label) (192 + u) at) (u + 1)
+    → RecordedHalf r old (set (set (set (set plan u head) (vertexLimit + u) vertex) (2 * vertexLimit + u) label) (3 * vertexLimit + u) at) (u + 1)
 recorded-more {r} {rows} {labels} {order} {place} N old plan u lu P c label at vertex head k C F H =
     let p = N .sound .passed in
-    let few : count r ≤ 64 = p .ends .few in
-    let n : length plan ≡ 512 = P .long in
+    let few : count r ≤ vertexLimit = p .ends .few in
+    let n : length plan ≡ planRows = P .long in
     let K : ChildrenAre r u c label at vertex = children-are r _ _ p place (N .placed) u c label at vertex lu (rw (N .neighbours, N .edges, N .placed u lu) at C) in
     let G : LaterAt (getD (neighbourTable r) u []) place (position r u) k = rw (N .neighbours, N .placed u lu) at F in
     let used : c ≡ length (children r u) = K .used in
@@ -137,7 +137,7 @@ recorded-more {r} {rows} {labels} {order} {place} N old plan u lu P c label at v
       get = λ x h. ⊎-elim
           (λ e. rw e (record {
             child-count = rw a1 (H .number ∙ used);
-            few = let b : c ≤ 8 = K .few in omega arith;
+            few = let b : c ≤ degreeLimit = K .few in omega arith;
             place = rw a1 (H .place ∙ N .placed u lu);
             order = rw a1 (H .order ∙ N .ordered u lu);
             above = rw a1 (H .above ∙ rw (N .neighbours) (parent-at r _ _ p place (N .placed) u k lu G));
@@ -148,9 +148,9 @@ recorded-more {r} {rows} {labels} {order} {place} N old plan u lu P c label at v
           }))
           (λ e. recorded-same r plan _ x
           (o x (λ q. omega arith) (λ q. omega arith) (λ q. omega arith) (λ q. omega arith))
-          (o (64 + x) (λ q. omega arith) (λ q. omega arith) (λ q. omega arith) (λ q. omega arith))
-          (o (128 + x) (λ q. omega arith) (λ q. omega arith) (λ q. omega arith) (λ q. omega arith))
-          (o (192 + x) (λ q. omega arith) (λ q. omega arith) (λ q. omega arith) (λ q. omega arith))
+          (o (vertexLimit + x) (λ q. omega arith) (λ q. omega arith) (λ q. omega arith) (λ q. omega arith))
+          (o (2 * vertexLimit + x) (λ q. omega arith) (λ q. omega arith) (λ q. omega arith) (λ q. omega arith))
+          (o (3 * vertexLimit + x) (λ q. omega arith) (λ q. omega arith) (λ q. omega arith) (λ q. omega arith))
           (P .get x (omega arith)))
           (same? x u);
       kept = λ x h. o x (λ q. omega arith) (λ q. omega arith) (λ q. omega arith) (λ q. omega arith) ∙ P .kept x h;
@@ -158,7 +158,7 @@ recorded-more {r} {rows} {labels} {order} {place} N old plan u lu P c label at v
 
 -- ---- the found tree's
 
-found-same : (f : List ℕ) (plan plan′ : List (List ℕ)) (v : ℕ) → getD plan′ (256 + v) [] ≡ getD plan (256 + v) [] → getD plan′ (320 + v) [] ≡ getD plan (320 + v) [] → getD plan′ (384 + v) [] ≡ getD plan (384 + v) [] → getD plan′ (448 + v) [] ≡ getD plan (448 + v) [] → FoundIn f plan v → FoundIn f plan′ v
+found-same : (f : List ℕ) (plan plan′ : List (List ℕ)) (v : ℕ) → getD plan′ (foundRow + v) [] ≡ getD plan (foundRow + v) [] → getD plan′ (5 * vertexLimit + v) [] ≡ getD plan (5 * vertexLimit + v) [] → getD plan′ (6 * vertexLimit + v) [] ≡ getD plan (6 * vertexLimit + v) [] → getD plan′ (7 * vertexLimit + v) [] ≡ getD plan (7 * vertexLimit + v) [] → FoundIn f plan v → FoundIn f plan′ v
 found-same f plan plan′ v a b c d F = record {
   degree = rw a (F .degree);
   begins = rw a (F .begins);
@@ -169,29 +169,29 @@ found-same f plan plan′ v a b c d F = record {
 
 -- the first v vertices' rows, and the recorded half as it was
 pub record FoundHalf (f : List ℕ) (old plan : List (List ℕ)) (v : ℕ) : Type 0 where
-  pub long : length plan ≡ 512
+  pub long : length plan ≡ planRows
   pub get : (x : ℕ) → x < v → FoundIn f plan x
-  pub kept : (x : ℕ) → x < 256 → getD plan x [] ≡ getD old x []
+  pub kept : (x : ℕ) → x < foundRow → getD plan x [] ≡ getD old x []
 
-pub found-none : (f : List ℕ) (plan : List (List ℕ)) → length plan ≡ 512 → FoundHalf f plan plan 0
+pub found-none : (f : List ℕ) (plan : List (List ℕ)) → length plan ≡ planRows → FoundHalf f plan plan 0
 found-none f plan e = record { long = e; get = λ x h. absurd (not-suc-le-zero h); kept = λ x h. refl }
 
 pub found-more : {f : List ℕ} {rows labels : List (List ℕ)} {starts : List ℕ} → FoundRead f rows labels starts → (old plan : List (List ℕ)) (v : ℕ) → v < count f → FoundHalf f old plan v
-    → (k : ℕ) (back head : List ℕ) → TakenPlaces (getD rows v []) k → BehindTo rows starts v 8 back → getD head 0 0 ≡ k → getD head 1 0 ≡ getD starts v 0
-    → FoundHalf f old (set (set (set (set plan (256 + v) head) (320 + v) (getD rows v [])) (384 + v) (getD labels v [])) (448 + v) back) (v + 1)
+    → (k : ℕ) (back head : List ℕ) → TakenPlaces (getD rows v []) k → BehindTo rows starts v degreeLimit back → getD head 0 0 ≡ k → getD head 1 0 ≡ getD starts v 0
+    → FoundHalf f old (set (set (set (set plan (foundRow + v) head) (5 * vertexLimit + v) (getD rows v [])) (6 * vertexLimit + v) (getD labels v [])) (7 * vertexLimit + v) back) (v + 1)
 found-more {f} {rows} {labels} {starts} N old plan v lv P k back head t B e0 e1 =
     let p = N .sound .passed in
-    let few : count f ≤ 64 = p .ends .few in
-    let n : length plan ≡ 512 = P .long in
+    let few : count f ≤ vertexLimit = p .ends .few in
+    let n : length plan ≡ planRows = P .long in
     let used : k ≡ length (neighbours f v) = taken-neighbours f _ _ p v k lv (rw (N .neighbours) at t) in
-    let d : length (neighbours f v) ≤ 8 = few-neighbours f _ _ p v lv in
-    let a1 = stored-1 (256 + v) 256 v plan head (getD rows v []) (getD labels v []) back refl (omega arith) in
-    let a2 = stored-2 (256 + v) 256 v plan head (getD rows v []) (getD labels v []) back refl (omega arith) in
-    let a3 = stored-3 (256 + v) 256 v plan head (getD rows v []) (getD labels v []) back refl (omega arith) in
-    let a4 = stored-4 (256 + v) 256 v plan head (getD rows v []) (getD labels v []) back refl (omega arith) in
-    let o = stored-other (256 + v) 256 v plan head (getD rows v []) (getD labels v []) back in
+    let d : length (neighbours f v) ≤ degreeLimit = few-neighbours f _ _ p v lv in
+    let a1 = stored-1 (foundRow + v) foundRow v plan head (getD rows v []) (getD labels v []) back refl (omega arith) in
+    let a2 = stored-2 (foundRow + v) foundRow v plan head (getD rows v []) (getD labels v []) back refl (omega arith) in
+    let a3 = stored-3 (foundRow + v) foundRow v plan head (getD rows v []) (getD labels v []) back refl (omega arith) in
+    let a4 = stored-4 (foundRow + v) foundRow v plan head (getD rows v []) (getD labels v []) back refl (omega arith) in
+    let o = stored-other (foundRow + v) foundRow v plan head (getD rows v []) (getD labels v []) back in
     record {
-      long = stored-long (256 + v) 256 v plan head (getD rows v []) (getD labels v []) back ∙ n;
+      long = stored-long (foundRow + v) foundRow v plan head (getD rows v []) (getD labels v []) back ∙ n;
       get = λ x h. ⊎-elim
           (λ e. rw e (record {
             degree = rw a1 (e0 ∙ used);
@@ -201,10 +201,10 @@ found-more {f} {rows} {labels} {starts} N old plan v lv P k back head t B e0 e1 
             behind = λ j l. rw a4 (behind-is f _ _ p starts (N .offsets) v (getD (neighbours f v) j 0) (getD back j 0) lv (getD-mem (neighbours f v) j l) (rw (named j l, N .neighbours) at (B .get j (omega arith))));
           }))
           (λ e. found-same f plan _ x
-          (o (256 + x) (λ q. omega arith) (λ q. omega arith) (λ q. omega arith) (λ q. omega arith))
-          (o (320 + x) (λ q. omega arith) (λ q. omega arith) (λ q. omega arith) (λ q. omega arith))
-          (o (384 + x) (λ q. omega arith) (λ q. omega arith) (λ q. omega arith) (λ q. omega arith))
-          (o (448 + x) (λ q. omega arith) (λ q. omega arith) (λ q. omega arith) (λ q. omega arith))
+          (o (foundRow + x) (λ q. omega arith) (λ q. omega arith) (λ q. omega arith) (λ q. omega arith))
+          (o (5 * vertexLimit + x) (λ q. omega arith) (λ q. omega arith) (λ q. omega arith) (λ q. omega arith))
+          (o (6 * vertexLimit + x) (λ q. omega arith) (λ q. omega arith) (λ q. omega arith) (λ q. omega arith))
+          (o (7 * vertexLimit + x) (λ q. omega arith) (λ q. omega arith) (λ q. omega arith) (λ q. omega arith))
           (P .get x (omega arith)))
           (same? x v);
       kept = λ x h. o x (λ q. omega arith) (λ q. omega arith) (λ q. omega arith) (λ q. omega arith) ∙ P .kept x h;
@@ -215,9 +215,9 @@ found-more {f} {rows} {labels} {starts} N old plan v lv P k back head t B e0 e1 
 
 -- ---- both
 
-pub planned : {r f : List ℕ} {old plan plan′ : List (List ℕ)} → count r ≤ 64 → RecordedHalf r old plan (count r) → FoundHalf f plan plan′ (count f) → Planned r f plan′
+pub planned : {r f : List ℕ} {old plan plan′ : List (List ℕ)} → count r ≤ vertexLimit → RecordedHalf r old plan (count r) → FoundHalf f plan plan′ (count f) → Planned r f plan′
 planned {r} {f} {old} {plan} {plan′} few R F = record {
-  recorded = λ u l. recorded-same r plan plan′ u (F .kept u (omega arith)) (F .kept (64 + u) (omega arith)) (F .kept (128 + u) (omega arith)) (F .kept (192 + u) (omega arith)) (R .get u l);
+  recorded = λ u l. recorded-same r plan plan′ u (F .kept u (omega arith)) (F .kept (vertexLimit + u) (omega arith)) (F .kept (2 * vertexLimit + u) (omega arith)) (F .kept (3 * vertexLimit + u) (omega arith)) (R .get u l);
   found = F .get;
 }
 

@@ -3,6 +3,9 @@ use adjacency::edge_label_table;
 use adjacency::neighbour_table;
 use formats::tree::vertex_count;
 use model::Limits;
+use model::PlaceTable;
+use model::Row;
+use model::VertexTable;
 use plan::Blocks;
 use plan::Plan;
 use trees::places;
@@ -11,16 +14,16 @@ ghost use Prim.Native.Nat.{ℕ, _+_, _<_, _≤_};
 ghost use mathlib.Core.Path.{_≡_};
 ghost use lib.ListN.{getD, length};
 ghost use Rattle.model.specs.Graph.{neighbourTable};
-ghost use Rattle.model.specs.Limits.{vertexLimit, widthLimit};
+ghost use Rattle.model.specs.Limits.{vertexLimit, degreeLimit, widthLimit};
 ghost use Rattle.model.specs.Tree.{count};
 ghost use Rattle.trees.specs.Accepted.{Sound};
-ghost use Rattle.plan.specs.Plan.{Planned};
+ghost use Rattle.plan.specs.Plan.{planRows, Planned};
 ghost use Rattle.planning.specs.Making.{TakenPlaces, Starts, placeOr, nextOf, ChildrenTo, At, Behind, BehindTo};
 ghost use Rattle.planning.specs.Parents.{isLater, LaterAt, atOr};
 ghost use Rattle.planning.specs.Rows.{RecordedRead, FoundRead, Head, RecordedHalf, FoundHalf};
 
 // How many places of a row are taken.
-fn taken(row: [u8; 8]) -> u8
+fn taken(row: Row) -> u8
     ensures { λ r. ⌜ TakenPlaces row r ⌝ }
 {
     let mut k: u8 = 0;
@@ -34,13 +37,13 @@ fn taken(row: [u8; 8]) -> u8
 }
 
 // Where the subproblems of each found vertex begin among those of one recorded vertex.
-fn starts(found: &[u8], neighbours: &[[u8; 8]; 64]) -> [u8; 65]
+fn starts(found: &[u8], neighbours: &PlaceTable) -> [u8; Limits::BOUNDS]
     requires { ⌜ Sound (now found) ⌝ }
     requires { ⌜ now neighbours ≡ neighbourTable (now found) ⌝ }
     ensures { λ r. ⌜ Starts (now (found .entry)) (count (now (found .entry))) r ⌝ }
 {
     let n = vertex_count(found);
-    let mut s = [0u8; 65];
+    let mut s = [0u8; Limits::BOUNDS];
     let mut v: usize = 0;
     while v < n {
         let k = taken(neighbours[v]);
@@ -53,13 +56,13 @@ fn starts(found: &[u8], neighbours: &[[u8; 8]; 64]) -> [u8; 65]
 // The children of a recorded vertex: their number, and in the first places each one's vertex, the label of the edge to it, and its place.
 struct Family {
     count: u8,
-    vertex: [u8; 8],
-    label: [u8; 8],
-    place: [u8; 8],
+    vertex: Row,
+    label: Row,
+    place: Row,
 }
 
 // A vertex's place in the postorder, 255 where w is no vertex.
-fn place_or(place: &[u8; 64], w: u8) -> u8
+fn place_or(place: &VertexTable, w: u8) -> u8
     ensures { λ r. ⌜ r ≡ placeOr (now (place .entry)) w ⌝ }
 {
     if w < Limits::VERTICES {
@@ -71,19 +74,19 @@ fn place_or(place: &[u8; 64], w: u8) -> u8
 
 // One more where p comes before `own`.
 fn next(c: u8, p: u8, own: u8) -> u8
-    requires { ⌜ c < 8 ⌝ }
+    requires { ⌜ c < degreeLimit ⌝ }
     ensures { λ r. ⌜ r ≡ nextOf c p own ⌝ }
 {
     if p < own { c + 1 } else { c }
 }
 
 // Of the neighbours in their places: those that come before `own` in the postorder are the children.
-fn children(neighbours: [u8; 8], labels: [u8; 8], place: &[u8; 64], own: u8) -> Family
-    ensures { λ r. ⌜ ChildrenTo neighbours labels (now (place .entry)) own 8 (r .count) (r .label) (r .place) (r .vertex) ⌝ }
+fn children(neighbours: Row, labels: Row, place: &VertexTable, own: u8) -> Family
+    ensures { λ r. ⌜ ChildrenTo neighbours labels (now (place .entry)) own degreeLimit (r .count) (r .label) (r .place) (r .vertex) ⌝ }
 {
-    let mut vertex = [0u8; 8];
-    let mut label = [0u8; 8];
-    let mut at = [0u8; 8];
+    let mut vertex = [0u8; Limits::PLACES];
+    let mut label = [0u8; Limits::PLACES];
+    let mut at = [0u8; Limits::PLACES];
     let mut c: u8 = 0;
     let mut i: usize = 0;
     while i < Limits::PLACES {
@@ -103,8 +106,8 @@ fn children(neighbours: [u8; 8], labels: [u8; 8], place: &[u8; 64], own: u8) -> 
     }
 }
 
-// The first place of v in a row, or 8.
-fn find(row: [u8; 8], v: u8) -> u8
+// The first place of v in a row, or DEGREE.
+fn find(row: Row, v: u8) -> u8
     ensures { λ r. ⌜ At row v r ⌝ }
 {
     let mut i: u8 = 0;
@@ -118,7 +121,7 @@ fn find(row: [u8; 8], v: u8) -> u8
 }
 
 // Where the subproblem of x with v as its s stands among those of one recorded vertex, 0 where x is no vertex.
-fn behind_one(neighbours: &[[u8; 8]; 64], starts: &[u8; 65], v: u8, x: u8) -> u8
+fn behind_one(neighbours: &PlaceTable, starts: &[u8; Limits::BOUNDS], v: u8, x: u8) -> u8
     requires { ⌜ ((y : ℕ) → getD (now starts) y 0 ≤ widthLimit) ⌝ }
     ensures { λ r. ⌜ Behind (now (neighbours .entry)) (now (starts .entry)) v x r ⌝ }
 {
@@ -131,13 +134,13 @@ fn behind_one(neighbours: &[[u8; 8]; 64], starts: &[u8; 65], v: u8, x: u8) -> u8
 }
 
 // In each place of v's neighbours, where the subproblem behind it stands.
-fn behind_row(neighbours: &[[u8; 8]; 64], starts: &[u8; 65], v: u8) -> [u8; 8]
+fn behind_row(neighbours: &PlaceTable, starts: &[u8; Limits::BOUNDS], v: u8) -> Row
     requires { ⌜ v < vertexLimit ⌝ }
     requires { ⌜ ((y : ℕ) → getD (now starts) y 0 ≤ widthLimit) ⌝ }
-    ensures { λ r. ⌜ BehindTo (now (neighbours .entry)) (now (starts .entry)) v 8 r ⌝ }
+    ensures { λ r. ⌜ BehindTo (now (neighbours .entry)) (now (starts .entry)) v degreeLimit r ⌝ }
 {
     let row = neighbours[v as usize];
-    let mut r = [0u8; 8];
+    let mut r = [0u8; Limits::PLACES];
     let mut j: usize = 0;
     while j < Limits::PLACES {
         let b = behind_one(neighbours, starts, v, row[j]);
@@ -148,7 +151,7 @@ fn behind_row(neighbours: &[[u8; 8]; 64], starts: &[u8; 65], v: u8) -> [u8; 8]
 }
 
 // w is a vertex that comes after place `own` of the postorder.
-fn is_later(place: &[u8; 64], w: u8, own: u8) -> bool
+fn is_later(place: &VertexTable, w: u8, own: u8) -> bool
     ensures { λ r. ⌜ r ≡ isLater (now (place .entry)) own w ⌝ }
 {
     if w < Limits::VERTICES {
@@ -157,8 +160,8 @@ fn is_later(place: &[u8; 64], w: u8, own: u8) -> bool
     false
 }
 
-// The first place of a row whose vertex comes after place `own`, 8 for none.
-fn later_at(row: [u8; 8], place: &[u8; 64], own: u8) -> usize
+// The first place of a row whose vertex comes after place `own`, PLACES for none.
+fn later_at(row: Row, place: &VertexTable, own: u8) -> usize
     ensures { λ r. ⌜ LaterAt row (now (place .entry)) own r ⌝ }
 {
     let mut i: usize = 0;
@@ -173,7 +176,7 @@ fn later_at(row: [u8; 8], place: &[u8; 64], own: u8) -> usize
 }
 
 // What stands in place k, 0 where k is no place.
-fn at_or(row: [u8; 8], k: usize) -> u8
+fn at_or(row: Row, k: usize) -> u8
     ensures { λ r. ⌜ r ≡ atOr row k ⌝ }
 {
     if k < Limits::PLACES { row[k] } else { 0 }
@@ -181,10 +184,10 @@ fn at_or(row: [u8; 8], k: usize) -> u8
 
 // A recorded vertex's first row: its children's number, its place in the postorder, the vertex that stands u-th there, its parent and the label of the
 // edge to it.
-fn head_of(children: u8, own: u8, at: u8, parent: u8, edge: u8) -> [u8; 8]
+fn head_of(children: u8, own: u8, at: u8, parent: u8, edge: u8) -> Row
     ensures { λ r. ⌜ Head r children own at parent edge ⌝ }
 {
-    let mut head = [0u8; 8];
+    let mut head = [0u8; Limits::PLACES];
     head[0] = children;
     head[1] = own;
     head[2] = at;
@@ -197,12 +200,12 @@ fn head_of(children: u8, own: u8, at: u8, parent: u8, edge: u8) -> [u8; 8]
 fn store_recorded(
     plan: &mut Plan,
     recorded: &[u8],
-    neighbours: &[[u8; 8]; 64],
-    labels: &[[u8; 8]; 64],
-    order: &[u8; 64],
-    place: &[u8; 64],
+    neighbours: &PlaceTable,
+    labels: &PlaceTable,
+    order: &VertexTable,
+    place: &VertexTable,
 )
-    requires { ⌜ length (now plan) ≡ 512 ⌝ }
+    requires { ⌜ length (now plan) ≡ planRows ⌝ }
     requires { ⌜ RecordedRead (now recorded) (now neighbours) (now labels) (now order) (now place) ⌝ }
     ensures { λ _. ⌜ RecordedHalf (now (recorded .entry)) (now (plan .entry)) (now (plan .exit)) (count (now (recorded .entry))) ⌝ }
 {
@@ -230,11 +233,11 @@ fn store_recorded(
 fn store_found(
     plan: &mut Plan,
     found: &[u8],
-    neighbours: &[[u8; 8]; 64],
-    labels: &[[u8; 8]; 64],
-    starts: &[u8; 65],
+    neighbours: &PlaceTable,
+    labels: &PlaceTable,
+    starts: &[u8; Limits::BOUNDS],
 )
-    requires { ⌜ length (now plan) ≡ 512 ⌝ }
+    requires { ⌜ length (now plan) ≡ planRows ⌝ }
     requires { ⌜ FoundRead (now found) (now neighbours) (now labels) (now starts) ⌝ }
     ensures { λ _. ⌜ FoundHalf (now (found .entry)) (now (plan .entry)) (now (plan .exit)) (count (now (found .entry))) ⌝ }
 {
@@ -243,7 +246,7 @@ fn store_found(
     while v < m {
         let row = neighbours[v];
         let back = behind_row(neighbours, starts, v as u8);
-        let mut head = [0u8; 8];
+        let mut head = [0u8; Limits::PLACES];
         head[0] = taken(row);
         head[1] = starts[v];
         plan[Blocks::FOUND + v] = head;
@@ -257,12 +260,12 @@ fn store_found(
 
 // The recorded half. The found half stays.
 fn plan_recorded(plan: &mut Plan, recorded: &[u8])
-    requires { ⌜ length (now plan) ≡ 512 ⌝ }
+    requires { ⌜ length (now plan) ≡ planRows ⌝ }
     requires { ⌜ Sound (now recorded) ⌝ }
     ensures { λ _. ⌜ RecordedHalf (now (recorded .entry)) (now (plan .entry)) (now (plan .exit)) (count (now (recorded .entry))) ⌝ }
 {
     let neighbours = neighbour_table(recorded);
-    let mut labels = [[Limits::NONE; 8]; 64];
+    let mut labels = [[Limits::NONE; Limits::PLACES]; Limits::ROWS];
     edge_label_table(&mut labels, recorded, &neighbours);
     let o = postorder(&neighbours);
     let order = o.at;
@@ -272,12 +275,12 @@ fn plan_recorded(plan: &mut Plan, recorded: &[u8])
 
 // The found half. The recorded half stays.
 fn plan_found(plan: &mut Plan, found: &[u8])
-    requires { ⌜ length (now plan) ≡ 512 ⌝ }
+    requires { ⌜ length (now plan) ≡ planRows ⌝ }
     requires { ⌜ Sound (now found) ⌝ }
     ensures { λ _. ⌜ FoundHalf (now (found .entry)) (now (plan .entry)) (now (plan .exit)) (count (now (found .entry))) ⌝ }
 {
     let neighbours = neighbour_table(found);
-    let mut labels = [[Limits::NONE; 8]; 64];
+    let mut labels = [[Limits::NONE; Limits::PLACES]; Limits::ROWS];
     edge_label_table(&mut labels, found, &neighbours);
     let begins = starts(found, &neighbours);
     store_found(plan, found, &neighbours, &labels, &begins);
@@ -285,7 +288,7 @@ fn plan_found(plan: &mut Plan, found: &[u8])
 
 // The plan of two accepted trees, over whatever stood there.
 pub fn make(plan: &mut Plan, recorded: &[u8], found: &[u8])
-    requires { ⌜ length (now plan) ≡ 512 ⌝ }
+    requires { ⌜ length (now plan) ≡ planRows ⌝ }
     requires { ⌜ Sound (now recorded) ⌝ }
     requires { ⌜ Sound (now found) ⌝ }
     ensures { λ _. ⌜ Planned (now (recorded .entry)) (now (found .entry)) (now (plan .exit)) ⌝ }

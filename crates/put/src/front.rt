@@ -1,6 +1,7 @@
 //! Storing the front of a certificate: the head, and a partner for each recorded vertex.
 use crate::put_mark;
 use crate::put_number;
+use model::Mapping;
 ghost use Prim.Native.Nat.{_+_, _*_, _≤_};
 ghost use lib.ListN.{length};
 ghost use Rattle.model.specs.Limits.{vertexLimit};
@@ -28,7 +29,7 @@ fn put_partner(d: &mut [u8], at: usize, p: u8)
 }
 
 // Stores the first n partners.
-fn put_partners(d: &mut [u8], mapping: &[u8; 64], n: usize)
+fn put_partners(d: &mut [u8], mapping: &Mapping, n: usize)
     requires { ⌜ 8 + 3 * n ≤ length (now d) ⌝ }
     requires { ⌜ n ≤ vertexLimit ⌝ }
     ensures { λ _. ⌜ PartnersPut n (now (mapping .entry)) (now (d .entry)) (now (d .exit)) ⌝ }
@@ -41,7 +42,7 @@ fn put_partners(d: &mut [u8], mapping: &[u8; 64], n: usize)
 }
 
 // Stores the head and n partners.
-pub fn put_front(d: &mut [u8], n: usize, m: usize, w: i32, mapping: &[u8; 64])
+pub fn put_front(d: &mut [u8], n: usize, m: usize, w: i32, mapping: &Mapping)
     requires { ⌜ 8 + 3 * n ≤ length (now d) ⌝ }
     requires { ⌜ (n ≤ vertexLimit) × (m ≤ vertexLimit) ⌝ }
     ensures { λ _. ⌜ FrontPut n m w (now (mapping .entry)) (now (d .entry)) (now (d .exit)) ⌝ }

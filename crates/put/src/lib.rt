@@ -2,6 +2,7 @@
 pub mod front;
 
 use integers::encode;
+use model::WideRow;
 ghost use Prim.Native.Nat.{_+_, _*_, _≤_};
 ghost use lib.IntN.{pos};
 ghost use lib.ListN.{length};
@@ -9,7 +10,7 @@ ghost use Rattle.model.specs.Limits.{dualLimit};
 ghost use Rattle.put.specs.Puts.{Fit, MarkPut, NumberPut, RowPut, RecordPut};
 
 // Stores the two bytes of the mark m.
-pub fn put_mark(d: &mut [u8], at: usize, m: &[u8; 2])
+pub(crate) fn put_mark(d: &mut [u8], at: usize, m: &[u8; 2])
     requires { ⌜ at + 2 ≤ length (now d) ⌝ }
     ensures { λ _. ⌜ MarkPut at (now (m .entry)) (now (d .entry)) (now (d .exit)) ⌝ }
 {
@@ -18,7 +19,7 @@ pub fn put_mark(d: &mut [u8], at: usize, m: &[u8; 2])
 }
 
 // Stores w in four bytes.
-pub fn put_number(d: &mut [u8], at: usize, w: i32)
+pub(crate) fn put_number(d: &mut [u8], at: usize, w: i32)
     requires { ⌜ at + 4 ≤ length (now d) ⌝ }
     ensures { λ _. ⌜ NumberPut at w (now (d .entry)) (now (d .exit)) ⌝ }
 {
@@ -35,7 +36,7 @@ fn put_dual(d: &mut [u8], at: usize, x: u64)
 }
 
 // Stores the first `count` duals.
-fn put_row(d: &mut [u8], at: usize, duals: &[u64; 8], count: usize)
+fn put_row(d: &mut [u8], at: usize, duals: &WideRow, count: usize)
     requires { ⌜ at + 4 * count ≤ length (now d) ⌝ }
     requires { ⌜ Fit (now duals) count ⌝ }
     ensures { λ _. ⌜ RowPut at count (now (duals .entry)) (now (d .entry)) (now (d .exit)) ⌝ }
@@ -52,9 +53,9 @@ pub fn put_record(
     d: &mut [u8],
     at: usize,
     w: i32,
-    children: &[u64; 8],
+    children: &WideRow,
     k: usize,
-    neighbours: &[u64; 8],
+    neighbours: &WideRow,
     l: usize,
 )
     requires { ⌜ at + 6 + 4 * k + 4 * l ≤ length (now d) ⌝ }

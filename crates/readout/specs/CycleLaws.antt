@@ -11,7 +11,7 @@ use lib.IntN.{ℤ}
 use Rattle.foundations.specs.Members.{mem-here}
 use Rattle.model.specs.Calls.{inputItem}
 use Rattle.model.specs.Graph.{neighbours}
-use Rattle.model.specs.Limits.{noVertex}
+use Rattle.model.specs.Limits.{noVertex, degreeLimit}
 use Rattle.model.specs.Mapping.{partner}
 use Rattle.model.specs.Order.{children}
 use Rattle.model.specs.Tree.{count}
@@ -28,7 +28,7 @@ use Rattle.readout.specs.ReadSteps.{read-none, reading-start, reading-mo
 -- the n children of u, and in the same places their mates below (u, v, s)
 pub record BranchPairs (table r f : List ℕ) (work : List ℤ) (u v s n : ℕ) (names : ℕ → ℕ) (mates : List ℕ) : Type 0 where
   pub used : n ≡ length (children r u)
-  pub few : n ≤ 8
+  pub few : n ≤ degreeLimit
   pub named : (i : ℕ) → i < n → names i ≡ getD (children r u) i 0
   pub choice : ChoiceAt table r f work u v s mates
 

@@ -32,16 +32,16 @@ isZero z at i = eqZ (int32At z (at + 4 * i)) (pos 0)
 
 -- the first n of an array are the numbers from `at` on, 0 for a negative one
 pub record NumbersIn (z : List ℕ) (at n : ℕ) (r : List ℕ) : Type 0 where
-  pub long : length r ≡ 8
+  pub long : length r ≡ degreeLimit
   pub get : (i : ℕ) → i < n → getD r i 0 ≡ up (int32At z (at + 4 * i))
   pub small : (i : ℕ) → i < n → getD r i 0 < 2 ^ 31
 
-pub numbers-none : (z : List ℕ) (at : ℕ) (r : List ℕ) → length r ≡ 8 → NumbersIn z at 0 r
+pub numbers-none : (z : List ℕ) (at : ℕ) (r : List ℕ) → length r ≡ degreeLimit → NumbersIn z at 0 r
 numbers-none z at r e = record { long = e; get = λ i h. absurd (not-suc-le-zero h); small = λ i h. absurd (not-suc-le-zero h) }
 
-pub numbers-more : (z : List ℕ) (at n : ℕ) (r : List ℕ) (x : ℕ) → n < 8 → NumbersIn z at n r → x ≡ up (int32At z (at + 4 * n)) → x < 2 ^ 31 → NumbersIn z at (n + 1) (set r n x)
+pub numbers-more : (z : List ℕ) (at n : ℕ) (r : List ℕ) (x : ℕ) → n < degreeLimit → NumbersIn z at n r → x ≡ up (int32At z (at + 4 * n)) → x < 2 ^ 31 → NumbersIn z at (n + 1) (set r n x)
 numbers-more z at n r x h N e b =
-    let long : length r ≡ 8 = N .long in
+    let long : length r ≡ degreeLimit = N .long in
     record {
       long = length-set r n x ∙ long;
       get = λ i l. ⊎-elim

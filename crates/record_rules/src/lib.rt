@@ -7,6 +7,9 @@ use crate::numbers::none_negative;
 use crate::numbers::numbers_in;
 use crate::numbers::total_of;
 use integers::int32_at;
+use model::Gains;
+use model::Limits;
+use model::WideRow;
 use records::column;
 ghost use Prim.Native.Nat.{_<_};
 ghost use mathlib.Core.Path.{_≡_};
@@ -17,7 +20,7 @@ ghost use Rattle.records.specs.Others.{columnIn};
 ghost use Rattle.record_rules.specs.Cover.{isCovered, rowCovered, RowDuals, Duals, Inside, zerosIn, dualsIn, recordIn};
 
 // The gains of child i are covered: y is its dual, `across` are those of the l neighbours other than s.
-fn row_covered(g: &[u64; 64], i: usize, y: u64, across: &[u64; 8], l: usize, q: usize) -> bool
+fn row_covered(g: &Gains, i: usize, y: u64, across: &WideRow, l: usize, q: usize) -> bool
     requires { ⌜ RowDuals i y (now across) l q ⌝ }
     ensures { λ r. ⌜ r ≡ every (isCovered (now (g .entry)) i y (now (across .entry)) q) l ⌝ }
 {
@@ -25,7 +28,7 @@ fn row_covered(g: &[u64; 64], i: usize, y: u64, across: &[u64; 8], l: usize, q: 
     let mut j: usize = 0;
     while j < l {
         let c = column(q, j);
-        let t = g[i * 8 + c] <= y + across[j];
+        let t = g[i * Limits::PLACES + c] <= y + across[j];
         ok = ok & t;
         j += 1;
     }
@@ -33,14 +36,7 @@ fn row_covered(g: &[u64; 64], i: usize, y: u64, across: &[u64; 8], l: usize, q: 
 }
 
 // The gains of all k children are.
-fn all_covered(
-    g: &[u64; 64],
-    below: &[u64; 8],
-    across: &[u64; 8],
-    k: usize,
-    l: usize,
-    q: usize,
-) -> bool
+fn all_covered(g: &Gains, below: &WideRow, across: &WideRow, k: usize, l: usize, q: usize) -> bool
     requires { ⌜ Duals (now below) (now across) k l q ⌝ }
     ensures { λ r. ⌜ r ≡ every (rowCovered (now (g .entry)) (now (below .entry)) (now (across .entry)) l q) k ⌝ }
 {
@@ -66,7 +62,7 @@ fn forbidden_ok(z: &[u8], here: usize, k: usize, l: usize) -> bool
 }
 
 // The record of a pair of weight w with gains g: duals of 0 or more that cover each branch, and the value is the weight plus all duals.
-fn duals_ok(z: &[u8], here: usize, k: usize, l: usize, q: usize, g: &[u64; 64], w: i32) -> bool
+fn duals_ok(z: &[u8], here: usize, k: usize, l: usize, q: usize, g: &Gains, w: i32) -> bool
     requires { ⌜ Inside (length (now z)) here k l ⌝ }
     requires { ⌜ ((j : _) → j < l → columnIn q j < degreeLimit) ⌝ }
     ensures { λ r. ⌜ r ≡ dualsIn (now (z .entry)) here k l q (now (g .entry)) w ⌝ }
@@ -84,7 +80,7 @@ fn duals_ok(z: &[u8], here: usize, k: usize, l: usize, q: usize, g: &[u64; 64], 
 }
 
 // The record at `here` of a pair of weight w with gains g: u has n children, v has l neighbours other than the q-th choice.
-pub fn record_ok(z: &[u8], here: usize, n: usize, l: usize, q: usize, g: &[u64; 64], w: i32) -> bool
+pub fn record_ok(z: &[u8], here: usize, n: usize, l: usize, q: usize, g: &Gains, w: i32) -> bool
     requires { ⌜ Inside (length (now z)) here n l ⌝ }
     requires { ⌜ ((j : _) → j < l → columnIn q j < degreeLimit) ⌝ }
     ensures { λ r. ⌜ r ≡ recordIn (now (z .entry)) here n l q (now (g .entry)) w ⌝ }

@@ -1,6 +1,8 @@
 //! Numbers of a certificate from a place on, 4 bytes each: their signs, their values, and a value that is a weight plus a total.
 use integers::above_zero;
 use integers::int32_at;
+use model::Limits;
+use model::WideRow;
 ghost use Prim.Native.Nat.{_+_, _*_, _<_, _≤_, _^_};
 ghost use mathlib.Core.Path.{_≡_};
 ghost use lib.ListN.{getD, length};
@@ -41,7 +43,7 @@ pub fn is_sum(value: i32, weight: i32, total: u64) -> bool
 }
 
 // None of the count numbers from `at` on is negative.
-pub fn none_negative(z: &[u8], at: usize, count: usize) -> bool
+pub(crate) fn none_negative(z: &[u8], at: usize, count: usize) -> bool
     requires { ⌜ Spans (length (now z)) at count ⌝ }
     ensures { λ r. ⌜ r ≡ every (notNegative (now (z .entry)) at) count ⌝ }
 {
@@ -56,7 +58,7 @@ pub fn none_negative(z: &[u8], at: usize, count: usize) -> bool
 }
 
 // The count numbers from `at` on are all 0.
-pub fn all_zero(z: &[u8], at: usize, count: usize) -> bool
+pub(crate) fn all_zero(z: &[u8], at: usize, count: usize) -> bool
     requires { ⌜ Spans (length (now z)) at count ⌝ }
     ensures { λ r. ⌜ r ≡ every (isZero (now (z .entry)) at) count ⌝ }
 {
@@ -71,11 +73,11 @@ pub fn all_zero(z: &[u8], at: usize, count: usize) -> bool
 }
 
 // The count numbers from `at` on, 0 for a negative one.
-pub fn numbers_in(z: &[u8], at: usize, count: usize) -> [u64; 8]
+pub(crate) fn numbers_in(z: &[u8], at: usize, count: usize) -> WideRow
     requires { ⌜ Spans (length (now z)) at count ⌝ }
     ensures { λ r. ⌜ NumbersIn (now (z .entry)) at count r ⌝ }
 {
-    let mut r = [0u64; 8];
+    let mut r = [0u64; Limits::PLACES];
     let mut i: usize = 0;
     while i < count {
         let x = wide(above_zero(int32_at(z, at + 4 * i)));
@@ -86,7 +88,7 @@ pub fn numbers_in(z: &[u8], at: usize, count: usize) -> [u64; 8]
 }
 
 // The first n of them added up.
-pub fn total_of(numbers: &[u64; 8], n: usize) -> u64
+pub(crate) fn total_of(numbers: &WideRow, n: usize) -> u64
     requires { ⌜ Low (now numbers) n ⌝ }
     ensures { λ r. ⌜ (r ≡ sum n (λ i. getD (now (numbers .entry)) i 0)) × (r ≤ n * 2 ^ 31) ⌝ }
 {

@@ -48,7 +48,7 @@ pub fn column(q: usize, j: usize) -> usize
 // Their number over the first q choices of s.
 fn others_before(d: usize, q: usize) -> usize
     requires { ⌜ (d ≤ degreeLimit) × (q ≤ d) ⌝ }
-    ensures { λ r. ⌜ (r ≡ othersBefore d q) × (r ≤ 64) ⌝ }
+    ensures { λ r. ⌜ (r ≡ othersBefore d q) × (r ≤ vertexLimit) ⌝ }
 {
     if q == 0 {
         return 0;
@@ -58,16 +58,9 @@ fn others_before(d: usize, q: usize) -> usize
 
 // ---- places
 
-// The rows of the array below: one for each vertex, and one more.
-pub struct Rows {}
-
-impl Rows {
-    pub const ALL: usize = Limits::ROWS + 1;
-}
-
 // Row i says where the records of the i-th vertex in postorder begin, and what the squares of the degrees of the first i found vertices add up to. A
 // certificate's length fits 32 bits.
-pub type Places = [[u32; 2]; Rows::ALL];
+pub type Places = [[u32; 2]; Limits::BOUNDS];
 
 // A place as an index.
 fn wide(x: u32) -> usize
@@ -102,7 +95,7 @@ pub fn size(plan: &Plan, i: usize) -> usize
 
 // The sums of squares, each in its place.
 fn square_sums(p: &mut Places, recorded: &[u8], found: &[u8], plan: &Plan)
-    requires { ⌜ length (now p) ≡ 65 ⌝ }
+    requires { ⌜ length (now p) ≡ vertexLimit + 1 ⌝ }
     requires { ⌜ Inputs (now recorded) (now found) (now plan) ⌝ }
     ensures { λ _. ⌜ SquaresTo (now (found .entry)) (count (now (found .entry))) (now (p .exit)) ⌝ }
 {
@@ -120,7 +113,7 @@ fn square_sums(p: &mut Places, recorded: &[u8], found: &[u8], plan: &Plan)
 
 // Where the records stand, over whatever stood there.
 pub fn places_of(p: &mut Places, recorded: &[u8], found: &[u8], plan: &Plan)
-    requires { ⌜ length (now p) ≡ 65 ⌝ }
+    requires { ⌜ length (now p) ≡ vertexLimit + 1 ⌝ }
     requires { ⌜ Inputs (now recorded) (now found) (now plan) ⌝ }
     ensures { λ _. ⌜ Laid (now (recorded .entry)) (now (found .entry)) (now (plan .entry)) (now (p .exit)) ⌝ }
 {

@@ -12,7 +12,7 @@ use lib.ListN.{length, getD, set, length-set}
 use lib.Dec.{T, eqb}
 use lib.IntN.{ℤ}
 use Rattle.foundations.specs.Members.{mem, mem-there, mem-ne, getD-mem, del, del-mem}
-use Rattle.model.specs.Limits.{forbidden, widthLimit}
+use Rattle.model.specs.Limits.{forbidden, widthLimit, degreeLimit}
 use Rattle.model.specs.Weights.{isForbidden, weighed, stored, plusW}
 use Rattle.model.specs.Tree.{count}
 use Rattle.model.specs.Graph.{neighbours}
@@ -170,7 +170,7 @@ module _ {table r f : List ℕ} {plan : List (List ℕ)} (N : Ready table r f pl
       let m : (from + i) % width f < width f = mod-lt (from + i) (width-some N) in
       omega arith
 
-  pub run-room : {u rest from n m v : ℕ} → RowRun r f u rest from n → (i : ℕ) → i < n → m ≡ count f → Located (offsetIn plan) m (rest + i) v → (v < count f) × (offsetIn plan v ≤ rest + i) × (rest + i - offsetIn plan v ≤ degreeIn plan v) × (degreeIn plan v ≤ 8)
+  pub run-room : {u rest from n m v : ℕ} → RowRun r f u rest from n → (i : ℕ) → i < n → m ≡ count f → Located (offsetIn plan) m (rest + i) v → (v < count f) × (offsetIn plan v ≤ rest + i) × (rest + i - offsetIn plan v ≤ degreeIn plan v) × (degreeIn plan v ≤ degreeLimit)
   run-room {u} {rest} {from} {n} {m} {v} R i h e l =
       let a = rest-in N (from + i) m v e (rw (R .left i h) l) in
       let g = R .left i h in
@@ -178,7 +178,7 @@ module _ {table r f : List ℕ} {plan : List (List ℕ)} (N : Ready table r f pl
       let low : offset f v ≤ (from + i) % width f = a .2 in
       let up : (from + i) % width f - offset f v ≤ length (neighbours f v) = a .3 in
       let d : degreeIn plan v ≡ length (neighbours f v) = N .planned .found v (a .0) .degree in
-      let few : length (neighbours f v) ≤ 8 = few-neighbours f _ _ (ready-accepted N .found) v (a .0) in
+      let few : length (neighbours f v) ≤ degreeLimit = few-neighbours f _ _ (ready-accepted N .found) v (a .0) in
       (a .0, omega arith, omega arith, omega arith)
 
   -- those of it that are v's too

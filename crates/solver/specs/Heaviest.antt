@@ -14,6 +14,7 @@ use borrow.Author.Tests.{eq-eqb, ne-eqb, lt-ltb, le-ltb}
 use Rattle.foundations.specs.Tests.{same?, less?}
 use Rattle.foundations.specs.Sums.{sum, sum-zero, sum-ext, sum-const}
 use Rattle.foundations.specs.Members.{Distinct, del}
+use Rattle.model.specs.Limits.{degreeLimit, pairLimit}
 use Rattle.model.specs.Weights.{Weight, some}
 use Rattle.model.specs.Values.{best}
 use Rattle.assignment.specs.Matching.{at, cell, gained, weight}
@@ -35,13 +36,13 @@ out-no c g i j n = rw (ne-eqb (j + 1) c n)
 
 -- h has the gains of g without that column
 pub record LeftOut (k c : ℕ) (g h : List ℕ) : Type 0 where
-  pub long : length h ≡ 64
-  pub is : (i j : ℕ) → i < k → j < 8 → cell h i j ≡ outOf c (cell g) i j
+  pub long : length h ≡ pairLimit
+  pub is : (i j : ℕ) → i < k → j < degreeLimit → cell h i j ≡ outOf c (cell g) i j
 
-pub left-none : (k c : ℕ) (g : List ℕ) → length g ≡ 64 → c < 1 → LeftOut k c g g
+pub left-none : (k c : ℕ) (g : List ℕ) → length g ≡ pairLimit → c < 1 → LeftOut k c g g
 left-none k c g n z = record { long = n; is = λ i j hi hj. sym (out-no c (cell g) i j (λ e. omega arith)) }
 
-pub left-cleared : (k c d : ℕ) (g h : List ℕ) → length h ≡ 64 → c ≡ d + 1 → Cleared k d (cell g) (cell h) → LeftOut k c g h
+pub left-cleared : (k c d : ℕ) (g h : List ℕ) → length h ≡ pairLimit → c ≡ d + 1 → Cleared k d (cell g) (cell h) → LeftOut k c g h
 left-cleared k c d g h n e C = record {
   long = n;
   is = λ i j hi hj. ⊎-elim
@@ -52,8 +53,8 @@ left-cleared k c d g h n e C = record {
 
 -- a table of gains and a choice
 pub record Table (k l c : ℕ) (g : ℕ → ℕ → ℕ) : Type 0 where
-  pub rows : k ≤ 8
-  pub columns : l ≤ 8
+  pub rows : k ≤ degreeLimit
+  pub columns : l ≤ degreeLimit
   pub choice : c ≤ l
   pub small : (i j : ℕ) → i < k → j < l → g i j ≤ 4294967294
 
@@ -115,8 +116,8 @@ module _ {k l c : ℕ} {g h : List ℕ} (O : LeftOut k c g h) (T : Table k l c (
   pub heaviest-solved : {y z m : List ℕ} {r : ℕ} → Answer k l (cell h) y z m → Total k l (at y) (at z) r → HeaviestMatching k l c (cell g) r
   unfolding weight gained
   heaviest-solved {y} {z} {m} {r} B N =
-      let few : l ≤ 8 = T .columns in
-      let rows : k ≤ 8 = T .rows in
+      let few : l ≤ degreeLimit = T .columns in
+      let rows : k ≤ degreeLimit = T .rows in
       let D : Dual k l (cell h) (at y) (at z) (at m) = solved-dual (B .solved) in
       let same : weight k l (outOf c (cell g)) (at m) ≡ weight k l (cell h) (at m) =
       sum-ext k (gained l (outOf c (cell g)) (at m)) (gained l (cell h) (at m)) (λ i hi. ⊎-elim

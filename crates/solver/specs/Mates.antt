@@ -14,7 +14,7 @@ use borrow.Author.Tests.{eq-eqb, ne-eqb, lt-ltb, le-ltb}
 use Rattle.foundations.specs.Tests.{same?, less?}
 use Rattle.foundations.specs.Sums.{pick, lsum}
 use Rattle.foundations.specs.Members.{mem, mem-occ, getD-mem, place, place-low, del}
-use Rattle.model.specs.Limits.{noVertex}
+use Rattle.model.specs.Limits.{noVertex, degreeLimit, vertexLimit}
 use Rattle.model.specs.Weights.{Weight, some}
 use Rattle.model.specs.Tree.{count}
 use Rattle.model.specs.Graph.{neighbours}
@@ -39,7 +39,7 @@ pub record Choice (w : ℕ → ℕ → Weight) (s : ℕ) (cs A mates : List ℕ)
 
 -- row i's mate, by the column p that it has in the answer
 unfoldable pub nameOr : (ℕ → ℕ) → ℕ → ℕ
-nameOr names p = cond (ltb p 8) (names p) noVertex
+nameOr names p = cond (ltb p degreeLimit) (names p) noVertex
 
 pub record MateIs (l : ℕ) (g : ℕ → ℕ → ℕ) (m : ℕ → ℕ) (names : ℕ → ℕ) (i x : ℕ) : Type 0 where
   pub column : ℕ
@@ -47,15 +47,15 @@ pub record MateIs (l : ℕ) (g : ℕ → ℕ → ℕ) (m : ℕ → ℕ) (names :
   pub name : x ≡ nameOr names column
 
 pub record MatesTo (l : ℕ) (g : ℕ → ℕ → ℕ) (m : ℕ → ℕ) (names : ℕ → ℕ) (i : ℕ) (mates : List ℕ) : Type 0 where
-  pub long : length mates ≡ 8
+  pub long : length mates ≡ degreeLimit
   pub get : (j : ℕ) → j < i → MateIs l g m names j (getD mates j 0)
 
-pub mates-none : (l : ℕ) (g : ℕ → ℕ → ℕ) (m : ℕ → ℕ) (names : ℕ → ℕ) (mates : List ℕ) → length mates ≡ 8 → MatesTo l g m names 0 mates
+pub mates-none : (l : ℕ) (g : ℕ → ℕ → ℕ) (m : ℕ → ℕ) (names : ℕ → ℕ) (mates : List ℕ) → length mates ≡ degreeLimit → MatesTo l g m names 0 mates
 mates-none l g m names mates e = record { long = e; get = λ j h. absurd (not-suc-le-zero h) }
 
-pub mates-more : (l : ℕ) (g : ℕ → ℕ → ℕ) (m : ℕ → ℕ) (names : ℕ → ℕ) (i p x : ℕ) (mates : List ℕ) → i < 8 → MatesTo l g m names i mates → Partner l g m i p → x ≡ nameOr names p → MatesTo l g m names (i + 1) (set mates i x)
+pub mates-more : (l : ℕ) (g : ℕ → ℕ → ℕ) (m : ℕ → ℕ) (names : ℕ → ℕ) (i p x : ℕ) (mates : List ℕ) → i < degreeLimit → MatesTo l g m names i mates → Partner l g m i p → x ≡ nameOr names p → MatesTo l g m names (i + 1) (set mates i x)
 mates-more l g m names i p x mates h M P e =
-    let n : length mates ≡ 8 = M .long in
+    let n : length mates ≡ degreeLimit = M .long in
     record {
       long = length-set mates i x ∙ n;
       get = λ j b. ⊎-elim
@@ -73,29 +73,29 @@ pub record Mates (k l : ℕ) (h : List ℕ) (names : ℕ → ℕ) (mates : List 
   pub each : MatesTo l (cell h) (at m) names k mates
 
 -- a mate is a name, and its row has a gain; no mate, and it has none
-module _ (l : ℕ) (g : ℕ → ℕ → ℕ) (m : ℕ → ℕ) (names : ℕ → ℕ) (A : List ℕ) (named : (j : ℕ) → j < l → names j ≡ getD A j 0) (vertex : (j : ℕ) → j < l → getD A j 0 < 64) where
-  mate-some : (i x : ℕ) → MateIs l g m names i x → x ≢ 255 → (0 < gained l g m i) × (x ≡ getD A (m i) 0)
+module _ (l : ℕ) (g : ℕ → ℕ → ℕ) (m : ℕ → ℕ) (names : ℕ → ℕ) (A : List ℕ) (named : (j : ℕ) → j < l → names j ≡ getD A j 0) (vertex : (j : ℕ) → j < l → getD A j 0 < vertexLimit) where
+  mate-some : (i x : ℕ) → MateIs l g m names i x → x ≢ noVertex → (0 < gained l g m i) × (x ≡ getD A (m i) 0)
   unfolding nameOr gained
   mate-some i x M n = ⊎-elim
       (λ lt. let p = M .partner .pair lt in
       let e : M .column ≡ m i = p .0 in
       let low : m i < l = subst (λ (y : ℕ). y < l) e (p .1) in
-      (rw (lt-ltb (m i) l low) (subst (λ (y : ℕ). 0 < g i y) e (p .2)), M .name ∙ rw (lt-ltb (M .column) 8 lt) (named (M .column) (p .1) ∙ ap (λ (y : ℕ). getD A y 0) e)))
-      (λ le. absurd (n (M .name ∙ rw (le-ltb (M .column) 8 le))))
-      (less? (M .column) 8)
+      (rw (lt-ltb (m i) l low) (subst (λ (y : ℕ). 0 < g i y) e (p .2)), M .name ∙ rw (lt-ltb (M .column) degreeLimit lt) (named (M .column) (p .1) ∙ ap (λ (y : ℕ). getD A y 0) e)))
+      (λ le. absurd (n (M .name ∙ rw (le-ltb (M .column) degreeLimit le))))
+      (less? (M .column) degreeLimit)
 
-  mate-none : (i x : ℕ) → MateIs l g m names i x → x ≡ 255 → gained l g m i ≡ 0
+  mate-none : (i x : ℕ) → MateIs l g m names i x → x ≡ noVertex → gained l g m i ≡ 0
   unfolding nameOr
   mate-none i x M e = ⊎-elim
       (λ lt. let p = M .partner .pair lt in
-      let q : x ≡ getD A (M .column) 0 = M .name ∙ rw (lt-ltb (M .column) 8 lt) (named (M .column) (p .1)) in
-      let v : getD A (M .column) 0 < 64 = vertex (M .column) (p .1) in
+      let q : x ≡ getD A (M .column) 0 = M .name ∙ rw (lt-ltb (M .column) degreeLimit lt) (named (M .column) (p .1)) in
+      let v : getD A (M .column) 0 < vertexLimit = vertex (M .column) (p .1) in
       absurd (omega arith))
       (λ le. M .partner .none le)
-      (less? (M .column) 8)
+      (less? (M .column) degreeLimit)
 
-module _ {k l c : ℕ} {g h : List ℕ} {names : ℕ → ℕ} {mates : List ℕ} (few : l ≤ 8) (O : LeftOut k c g h) (A′ : Mates k l h names mates)
-    {w : ℕ → ℕ → Weight} {s : ℕ} {cs A : List ℕ} (S : Stands k l c w s cs A (cell g)) (named : (j : ℕ) → j < l → names j ≡ getD A j 0) (vertex : (j : ℕ) → j < l → getD A j 0 < 64) where
+module _ {k l c : ℕ} {g h : List ℕ} {names : ℕ → ℕ} {mates : List ℕ} (few : l ≤ degreeLimit) (O : LeftOut k c g h) (A′ : Mates k l h names mates)
+    {w : ℕ → ℕ → Weight} {s : ℕ} {cs A : List ℕ} (S : Stands k l c w s cs A (cell g)) (named : (j : ℕ) → j < l → names j ≡ getD A j 0) (vertex : (j : ℕ) → j < l → getD A j 0 < vertexLimit) where
   abbrev m : List ℕ
   m = A′ .m
 
@@ -109,13 +109,13 @@ module _ {k l c : ℕ} {g h : List ℕ} {names : ℕ → ℕ} {mates : List ℕ}
   unfolding mateIn
   row-of c t = A′ .each .get (place c cs) (let h = place-low c cs (mem-occ c cs t) in omega (arith, S .rows))
 
-  has-name : (c : ℕ) → T (hasMate cs mates c) → mateIn cs mates c ≢ 255
+  has-name : (c : ℕ) → T (hasMate cs mates c) → mateIn cs mates c ≢ noVertex
   unfolding hasMate
-  has-name c o e = subst (λ (b : Bool). T (not b)) (eq-eqb (mateIn cs mates c) 255 e) o
+  has-name c o e = subst (λ (b : Bool). T (not b)) (eq-eqb (mateIn cs mates c) noVertex e) o
 
-  no-name : (c : ℕ) → hasMate cs mates c ≡ false → mateIn cs mates c ≡ 255
+  no-name : (c : ℕ) → hasMate cs mates c ≡ false → mateIn cs mates c ≡ noVertex
   unfolding hasMate
-  no-name c e = ⊎-elim (λ q. q) (λ q. let t : not (eqb (mateIn cs mates c) 255) ≡ true = rw (ne-eqb (mateIn cs mates c) 255 q) in absurd (true≢false (sym t ∙ e))) (same? (mateIn cs mates c) 255)
+  no-name c e = ⊎-elim (λ q. q) (λ q. let t : not (eqb (mateIn cs mates c) noVertex) ≡ true = rw (ne-eqb (mateIn cs mates c) noVertex q) in absurd (true≢false (sym t ∙ e))) (same? (mateIn cs mates c) noVertex)
 
   some-of : (c : ℕ) → T (mem c cs) → T (hasMate cs mates c) → (0 < gained l (cell h) (at m) (place c cs)) × (mateIn cs mates c ≡ getD A (at m (place c cs)) 0)
   some-of c t o = mate-some l (cell h) (at m) names A named vertex (place c cs) (mateIn cs mates c) (row-of c t) (has-name c o)
@@ -188,7 +188,7 @@ module _ {table r f : List ℕ} {plan : List (List ℕ)} (N : Ready table r f pl
 
   pub sub-choice : {h : List ℕ} {mates : List ℕ} → LeftOut k c g h → Mates k l h (neighbourIn plan v) mates → ChoiceAt table r f work u v s mates
   sub-choice {h} {mates} O M = choice-at table r f work u v s mates (mates-choice (sub-table .columns) O M sub-stands named-as (λ j hj.
-      let few : count f ≤ 64 = ready-accepted N .found .ends .few in
+      let few : count f ≤ vertexLimit = ready-accepted N .found .ends .few in
       let b = columns-are in
       let a : getD (neighbours f v) j 0 < count f = mem-adjacent f v (getD (neighbours f v) j 0) (getD-mem (neighbours f v) j (omega arith)) .0 in
       omega arith))

@@ -3,6 +3,8 @@ use crate::subproblem::gains;
 use crate::subproblem::heaviest;
 use formats::tree::vertex_count;
 use integers::lesser;
+use model::Gains;
+use model::Limits;
 use plan::Plan;
 use plan::child_count;
 use plan::counts::width_of;
@@ -14,6 +16,7 @@ use plan::weights::vertex_pair;
 ghost use Prim.Native.Nat.{_+_, _≤_};
 ghost use mathlib.Core.Path.{_≡_};
 ghost use lib.ListN.{length};
+ghost use Rattle.model.specs.Limits.{pairLimit};
 ghost use Rattle.model.specs.Order.{subproblems};
 ghost use Rattle.model.specs.Values.{fill};
 ghost use Rattle.plan.specs.Plan.{Ready, Lent};
@@ -41,7 +44,7 @@ struct Run {
 
 // Of the subproblems of u and v a run that begins with the first-th choice of s. The gains are found in g, whatever stood there.
 fn fill_pair(
-    g: &mut [u64; 64],
+    g: &mut Gains,
     table: &[u8],
     recorded: &[u8],
     found: &[u8],
@@ -54,8 +57,8 @@ fn fill_pair(
     requires { ⌜ Ready (now table) (now recorded) (now found) (now plan) ⌝ }
     requires { ⌜ Lent (now recorded) (now found) (now work) ⌝ }
     requires { ⌜ PairRun (now recorded) (now found) u v (run .first) (run .from) (run .count) ⌝ }
-    requires { ⌜ length (now g) ≡ 64 ⌝ }
-    ensures { λ _. ⌜ (now (work .exit) ≡ fill (now (table .entry)) (now (recorded .entry)) (now (found .entry)) (now (work .entry)) (run .from) (run .count)) × (length (now (g .exit)) ≡ 64) ⌝ }
+    requires { ⌜ length (now g) ≡ pairLimit ⌝ }
+    ensures { λ _. ⌜ (now (work .exit) ≡ fill (now (table .entry)) (now (recorded .entry)) (now (found .entry)) (now (work .entry)) (run .from) (run .count)) × (length (now (g .exit)) ≡ pairLimit) ⌝ }
 {
     let w = vertex_pair(table, recorded, found, u, v);
     let k = child_count(plan, u);
@@ -64,7 +67,7 @@ fn fill_pair(
     let from = run.from;
     let count = run.count;
     if integers::is_forbidden(w) {
-        repeat(work, model::Limits::FORBIDDEN, from, count);
+        repeat(work, Limits::FORBIDDEN, from, count);
         return;
     }
     if k == 0 {
@@ -83,7 +86,7 @@ fn fill_pair(
 
 // Of the subproblems of u a run.
 fn fill_row(
-    g: &mut [u64; 64],
+    g: &mut Gains,
     table: &[u8],
     recorded: &[u8],
     found: &[u8],
@@ -95,8 +98,8 @@ fn fill_row(
     requires { ⌜ Ready (now table) (now recorded) (now found) (now plan) ⌝ }
     requires { ⌜ Lent (now recorded) (now found) (now work) ⌝ }
     requires { ⌜ RowRun (now recorded) (now found) u (run .first) (run .from) (run .count) ⌝ }
-    requires { ⌜ length (now g) ≡ 64 ⌝ }
-    ensures { λ _. ⌜ (now (work .exit) ≡ fill (now (table .entry)) (now (recorded .entry)) (now (found .entry)) (now (work .entry)) (run .from) (run .count)) × (length (now (g .exit)) ≡ 64) ⌝ }
+    requires { ⌜ length (now g) ≡ pairLimit ⌝ }
+    ensures { λ _. ⌜ (now (work .exit) ≡ fill (now (table .entry)) (now (recorded .entry)) (now (found .entry)) (now (work .entry)) (run .from) (run .count)) × (length (now (g .exit)) ≡ pairLimit) ⌝ }
 {
     let m = vertex_count(found);
     let first = run.first;
@@ -136,7 +139,7 @@ pub fn fill(
     ensures { λ _. ⌜ now (work .exit) ≡ fill (now (table .entry)) (now (recorded .entry)) (now (found .entry)) (now (work .entry)) from count ⌝ }
 {
     let width = width_of(found);
-    let mut g = [0u64; 64];
+    let mut g = [0u64; Limits::PAIRS];
     let mut i = 0;
     while i < count {
         let p = from + i;

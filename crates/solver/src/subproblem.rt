@@ -1,6 +1,9 @@
 //! One subproblem from the work numbers before it: the gains of its branches, their heaviest matching, and what it matches. The work
 //! numbers may be any: a gain is below 2^32, and so eight of them are far below the matching's limit.
+use assignment::FREE;
+use model::Gains;
 use model::Limits;
+use model::Row;
 use plan::Plan;
 use plan::behind;
 use plan::child_count;
@@ -27,12 +30,12 @@ ghost use Rattle.assignment.specs.State.{Sized};
 ghost use Rattle.model.specs.Values.{Subproblem, recalled};
 ghost use Rattle.assignment.specs.Matching.{cell};
 ghost use Rattle.model.specs.Graph.{neighbours};
-ghost use Rattle.model.specs.Limits.{vertexLimit, degreeLimit};
+ghost use Rattle.model.specs.Limits.{vertexLimit, degreeLimit, pairLimit};
 ghost use Rattle.model.specs.Order.{children};
 
 // The gains of u's i-th child with each neighbour of v, as row i of the table.
 fn gain_row(
-    g: &mut [u64; 64],
+    g: &mut Gains,
     table: &[u8],
     recorded: &[u8],
     found: &[u8],
@@ -42,7 +45,7 @@ fn gain_row(
     v: u8,
     i: usize,
 )
-    requires { ⌜ length (now g) ≡ 64 ⌝ }
+    requires { ⌜ length (now g) ≡ pairLimit ⌝ }
     requires { ⌜ Ready (now table) (now recorded) (now found) (now plan) ⌝ }
     requires { ⌜ Lent (now recorded) (now found) (now work) ⌝ }
     requires { ⌜ Pair (now recorded) (now found) u v ⌝ }
@@ -56,14 +59,14 @@ fn gain_row(
     while j < l {
         let e = edge_pair(table, label, neighbour_edge(plan, v, j));
         let q = gain_of(e, work[base + behind(plan, v, j)]);
-        g[i * 8 + j] = q;
+        g[i * Limits::PLACES + j] = q;
         j += 1;
     }
 }
 
-// The gains of u's children with v's neighbours, child i with neighbour j at i * 8 + j.
+// The gains of u's children with v's neighbours, child i with neighbour j at i * PLACES + j.
 pub fn gains(
-    g: &mut [u64; 64],
+    g: &mut Gains,
     table: &[u8],
     recorded: &[u8],
     found: &[u8],
@@ -72,7 +75,7 @@ pub fn gains(
     u: u8,
     v: u8,
 )
-    requires { ⌜ length (now g) ≡ 64 ⌝ }
+    requires { ⌜ length (now g) ≡ pairLimit ⌝ }
     requires { ⌜ Ready (now table) (now recorded) (now found) (now plan) ⌝ }
     requires { ⌜ Lent (now recorded) (now found) (now work) ⌝ }
     requires { ⌜ Pair (now recorded) (now found) u v ⌝ }
@@ -87,14 +90,14 @@ pub fn gains(
 }
 
 // The gain in row i and column j, 0 where choice c leaves column j out.
-fn gain_or_zero(g: &[u64; 64], i: usize, j: usize, c: usize) -> u64
+fn gain_or_zero(g: &Gains, i: usize, j: usize, c: usize) -> u64
     requires { ⌜ (i < degreeLimit) × (j < degreeLimit) ⌝ }
     ensures { λ r. ⌜ r ≡ outOf c (cell (now (g .entry))) i j ⌝ }
 {
     if j + 1 == c {
         return 0;
     }
-    g[i * 8 + j]
+    g[i * Limits::PLACES + j]
 }
 
 fn larger_of(a: u64, b: u64) -> u64
@@ -104,7 +107,7 @@ fn larger_of(a: u64, b: u64) -> u64
 }
 
 // The greatest gain of row i and `most`.
-fn row_most(g: &[u64; 64], i: usize, l: usize, c: usize, most: u64) -> u64
+fn row_most(g: &Gains, i: usize, l: usize, c: usize, most: u64) -> u64
     requires { ⌜ (i < degreeLimit) × (l ≤ degreeLimit) ⌝ }
     ensures { λ r. ⌜ r ≡ rowMost l (outOf c (cell (now (g .entry))) i) most ⌝ }
 {
@@ -119,7 +122,7 @@ fn row_most(g: &[u64; 64], i: usize, l: usize, c: usize, most: u64) -> u64
 }
 
 // The greatest gain of k rows and l columns, 0 if there is none.
-fn table_most(g: &[u64; 64], k: usize, l: usize, c: usize) -> u64
+fn table_most(g: &Gains, k: usize, l: usize, c: usize) -> u64
     requires { ⌜ (k ≤ degreeLimit) × (l ≤ degreeLimit) ⌝ }
     ensures { λ r. ⌜ r ≡ tableMost k l (outOf c (cell (now (g .entry)))) ⌝ }
 {
@@ -153,8 +156,8 @@ fn is_narrow(k: usize, l: usize, c: usize) -> bool
 }
 
 // The column that choice c leaves out set to 0.
-pub fn leave_out(g: &mut [u64; 64], k: usize, c: usize)
-    requires { ⌜ (length (now g) ≡ 64) × (k ≤ degreeLimit) × (c ≤ degreeLimit) ⌝ }
+pub fn leave_out(g: &mut Gains, k: usize, c: usize)
+    requires { ⌜ (length (now g) ≡ pairLimit) × (k ≤ degreeLimit) × (c ≤ degreeLimit) ⌝ }
     ensures { λ _. ⌜ LeftOut k c (now (g .entry)) (now (g .exit)) ⌝ }
 {
     if c < 1 {
@@ -165,8 +168,8 @@ pub fn leave_out(g: &mut [u64; 64], k: usize, c: usize)
 
 // The weight of the heaviest matching of k rows and l columns but the one that choice c leaves out: none for 0, else column c - 1. One row or
 // one column has its greatest gain.
-pub fn heaviest(g: &[u64; 64], k: usize, l: usize, c: usize) -> u64
-    requires { ⌜ length (now g) ≡ 64 ⌝ }
+pub(crate) fn heaviest(g: &Gains, k: usize, l: usize, c: usize) -> u64
+    requires { ⌜ length (now g) ≡ pairLimit ⌝ }
     requires { ⌜ Table k l c (cell (now g)) ⌝ }
     ensures { λ r. ⌜ HeaviestMatching k l c (cell (now (g .entry))) r ⌝ }
 {
@@ -176,9 +179,9 @@ pub fn heaviest(g: &[u64; 64], k: usize, l: usize, c: usize) -> u64
     }
     let mut h = *g;
     leave_out(&mut h, k, c);
-    let mut y = [0u64; 8];
-    let mut z = [0u64; 8];
-    let mut m = [8u8; 8];
+    let mut y = [0u64; Limits::PLACES];
+    let mut z = [0u64; Limits::PLACES];
+    let mut m = [FREE; Limits::PLACES];
     assignment::solve(&h, k, l, &mut y, &mut z, &mut m);
     assignment::total(k, l, &y, &z)
 }
@@ -196,16 +199,16 @@ fn name_or(plan: &Plan, v: u8, p: u8) -> u8
 }
 
 // The neighbour of v that each of k rows is matched with, 255 for none. A matched pair without gain is no pair.
-fn mates(g: &[u64; 64], k: usize, l: usize, plan: &Plan, v: u8) -> [u8; 8]
+fn mates(g: &Gains, k: usize, l: usize, plan: &Plan, v: u8) -> Row
     requires { ⌜ Sized k l (cell (now g)) ⌝ }
     requires { ⌜ v < vertexLimit ⌝ }
     ensures { λ r. ⌜ Mates k l (now (g .entry)) (neighbourIn (now (plan .entry)) v) r ⌝ }
 {
-    let mut y = [0u64; 8];
-    let mut z = [0u64; 8];
-    let mut m = [8u8; 8];
+    let mut y = [0u64; Limits::PLACES];
+    let mut z = [0u64; Limits::PLACES];
+    let mut m = [FREE; Limits::PLACES];
     assignment::solve(g, k, l, &mut y, &mut z, &mut m);
-    let mut r = [Limits::NONE; 8];
+    let mut r = [Limits::NONE; Limits::PLACES];
     let mut i = 0;
     while i < k {
         let p = assignment::partner(g, l, &m, i);
@@ -225,7 +228,7 @@ pub fn choice(
     u: u8,
     v: u8,
     s: u8,
-) -> [u8; 8]
+) -> Row
     requires { ⌜ Ready (now table) (now recorded) (now found) (now plan) ⌝ }
     requires { ⌜ Lent (now recorded) (now found) (now work) ⌝ }
     requires { ⌜ Subproblem (now recorded) (now found) u v s ⌝ }
@@ -234,7 +237,7 @@ pub fn choice(
     let k = child_count(plan, u);
     let l = degree(plan, v);
     let c = slot(plan, v, s);
-    let mut g = [0u64; 64];
+    let mut g = [0u64; Limits::PAIRS];
     gains(&mut g, table, recorded, found, plan, work, u, v);
     leave_out(&mut g, k, c);
     mates(&g, k, l, plan, v)

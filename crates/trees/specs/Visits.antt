@@ -15,7 +15,7 @@ use Rattle.foundations.specs.Lists.{below, below-ext, cat, cat-filter, cat-ext,
 use Rattle.foundations.specs.Members.{below-mem}
 use Rattle.model.specs.Limits.{vertexLimit, degreeLimit, noVertex}
 use Rattle.model.specs.Tree.{count}
-use Rattle.model.specs.Graph.{joined, neighbours, eight, neighbourTable}
+use Rattle.model.specs.Graph.{joined, neighbours, inPlaces, neighbourTable}
 use Rattle.model.specs.Order.{parent, children, postorderFrom, postorder, position}
 use Rattle.trees.specs.Accepted.{Passed}
 use Rattle.trees.specs.Neighbours.{few-neighbours}
@@ -75,8 +75,8 @@ module _ (s : List ℕ) (K L : ℕ) (p : Passed s K L) where
   post-is zero v l = refl
   post-is (suc k) v l = ap (λ (m : List ℕ). m ++ (v ∷ [])) (step (λ w lw. post-is k w lw))
     where
-      row : getD (neighbourTable s) v [] ≡ eight (neighbours s v)
-      row = unfold neighbourTable in getD-tab (λ x. eight (neighbours s x)) vertexLimit v [] (let f : count s ≤ vertexLimit = p .ends .few in omega arith)
+      row : getD (neighbourTable s) v [] ≡ inPlaces (neighbours s v)
+      row = unfold neighbourTable in getD-tab (λ x. inPlaces (neighbours s x)) vertexLimit v [] (let f : count s ≤ vertexLimit = p .ends .few in omega arith)
 
       step : ((w : ℕ) → w < count s → post (neighbourTable s) k w (parent s w) ≡ postorderFrom s k w) → gather (λ w. cond (goes w (parent s v)) (post (neighbourTable s) k w v) []) (getD (neighbourTable s) v []) degreeLimit ≡ cat (λ w. postorderFrom s k w) (children s v)
       step r =

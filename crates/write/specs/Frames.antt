@@ -65,15 +65,15 @@ record-same {table} {r} {f} {work} {z} {z′} {k} A R =
 
 -- r has the duals of the neighbours other than the q-th choice, in order, from x, which has all neighbours' in their places
 pub record OthersRow (l q : ℕ) (x r : List ℕ) : Type 0 where
-  pub long : length r ≡ 8
+  pub long : length r ≡ degreeLimit
   pub get : (j : ℕ) → j < l → getD r j 0 ≡ getD x (columnIn q j) 0
 
-pub others-none : (q : ℕ) (x r : List ℕ) → length r ≡ 8 → OthersRow 0 q x r
+pub others-none : (q : ℕ) (x r : List ℕ) → length r ≡ degreeLimit → OthersRow 0 q x r
 others-none q x r e = record { long = e; get = λ j h. absurd (not-suc-le-zero h) }
 
-pub others-more : (l q p : ℕ) (x r : List ℕ) → l < 8 → p ≡ columnIn q l → OthersRow l q x r → OthersRow (l + 1) q x (set r l (getD x p 0))
+pub others-more : (l q p : ℕ) (x r : List ℕ) → l < degreeLimit → p ≡ columnIn q l → OthersRow l q x r → OthersRow (l + 1) q x (set r l (getD x p 0))
 others-more l q p x r h e R =
-    let n : length r ≡ 8 = R .long in
+    let n : length r ≡ degreeLimit = R .long in
     record {
       long = length-set r l (getD x p 0) ∙ n;
       get = λ j b. ⊎-elim

@@ -1,5 +1,5 @@
 //! Writing a certificate (the paper's sheet): its items, all work numbers, then the front and a record for each subproblem.
-pub mod record;
+mod record;
 
 use crate::record::put_records;
 use formats::tree::vertex_count;
@@ -12,7 +12,6 @@ use plan::Plan;
 use planning::make;
 use put::front::put_front;
 use records::Places;
-use records::Rows;
 use records::begin;
 use records::places_of;
 ghost use Prim.Native.Nat.{_≤_};
@@ -65,7 +64,7 @@ pub fn write_certificate(
     }
     let mut plan = [[0u8; Limits::PLACES]; Blocks::ALL];
     make(&mut plan, recorded, found);
-    let mut places = [[0u32; 2]; Rows::ALL];
+    let mut places = [[0u32; 2]; Limits::BOUNDS];
     places_of(&mut places, recorded, found, &plan);
     let l = begin(&places, vertex_count(recorded));
     if certificate.len() < l {

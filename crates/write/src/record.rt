@@ -3,6 +3,8 @@ use duals::Duals;
 use duals::duals_of;
 use duals::pair_gains;
 use formats::tree::vertex_count;
+use model::Limits;
+use model::WideRow;
 use plan::Plan;
 use plan::child_count;
 use plan::counts::width_of;
@@ -28,12 +30,12 @@ ghost use Rattle.write.specs.Frames.{OthersRow, OneFits, OnePut};
 ghost use Rattle.write.specs.Records.{Full, RecordsLeft};
 
 // The duals of the l neighbours other than the q-th choice of s, in order.
-fn others_row(x: &[u64; 8], l: usize, q: usize) -> [u64; 8]
+fn others_row(x: &WideRow, l: usize, q: usize) -> WideRow
     requires { ⌜ l ≤ degreeLimit ⌝ }
     requires { ⌜ ((j : ℕ) → j < l → columnIn q j < degreeLimit) ⌝ }
     ensures { λ r. ⌜ OthersRow l q (now (x .entry)) r ⌝ }
 {
-    let mut r = [0u64; 8];
+    let mut r = [0u64; Limits::PLACES];
     let mut j = 0;
     while j < l {
         let p = column(q, j);
@@ -135,7 +137,7 @@ fn put_row(
 }
 
 // Stores the records of all subproblems in order.
-pub fn put_records(
+pub(crate) fn put_records(
     table: &[u8],
     recorded: &[u8],
     found: &[u8],

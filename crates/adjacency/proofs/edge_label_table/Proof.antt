@@ -1,6 +1,7 @@
 -- `edge_label_table` meets its contract. Assumes nothing.
 use Prim.Native.Nat.{_-_, _≤_, _<_}
 use mathlib.Core.Path.{_≡_, _∙_}
+use Rattle.model.specs.Limits.{vertexLimit}
 use Rattle.trees.specs.Accepted.{Ends}
 use Rattle.adjacency.specs.NeighbourSteps.{labelRows, labelSoFar, no-labels, labelled-rows, labels-end}
 use borrow.Author.Needs.{needs}
@@ -17,10 +18,10 @@ abbrev μ-loop : tie.MeasureT-loop
 ends : (c : tie.After-vertex-count Inv-loop μ-loop) → Ends (c .before .before .args .s .now) (c .vertex-count .result)
 ends c = rw (c .vertex-count .ensures) (c .before .before .pre .1 .0)
 
-low-a : (c : tie.After-edge-label-at Inv-loop μ-loop) → c .before .before .end-a .result < 64
+low-a : (c : tie.After-edge-label-at Inv-loop μ-loop) → c .before .before .end-a .result < vertexLimit
 low-a c = let l = c .before .before .before .before in omega (arith, ends (l .before) .low (l .loop .j) (omega arith), ends (l .before) .few, c .before .before .end-a .ensures)
 
-low-b : (c : tie.After-edge-label-at Inv-loop μ-loop) → c .before .end-b .result < 64
+low-b : (c : tie.After-edge-label-at Inv-loop μ-loop) → c .before .end-b .result < vertexLimit
 low-b c = let l = c .before .before .before .before in omega (arith, ends (l .before) .low (l .loop .j) (omega arith), ends (l .before) .few, c .before .end-b .ensures)
 
 vertex-count-requires : tie.Need-vertex-count-requires Inv-loop μ-loop

@@ -8,14 +8,15 @@ use lib.ListN.{getD, replicate, drop}
 use Rattle.foundations.specs.Lists.{tab, fill-step, fill-done}
 use borrow.Author.Needs.{needs}
 use native.Mathlib.Omega.{arith}
+use Rattle.model.specs.Limits.{degreeLimit}
 use Rattle.adjacency.proofs.label_in.Statement.{statement}
 use Rattle.adjacency.proofs.label_in.Tie as tie
 
 abbrev Inv-loop : tie.InvT-loop
-Inv-loop w l labels names r₀ i₀ r i = (i ≤ 8) × (r ≡ tab (λ k. cond (eqb w (getD names k 0)) l (getD labels k 0)) i ++ drop i (replicate 8 0))
+Inv-loop w l labels names r₀ i₀ r i = (i ≤ degreeLimit) × (r ≡ tab (λ k. cond (eqb w (getD names k 0)) l (getD labels k 0)) i ++ drop i (replicate degreeLimit 0))
 
 abbrev μ-loop : tie.MeasureT-loop
-μ-loop w l labels names r₀ i₀ r i = 8 - i
+μ-loop w l labels names r₀ i₀ r i = degreeLimit - i
 
 loop-holds : tie.Need-loop-holds Inv-loop μ-loop
 unfolding tab
@@ -37,13 +38,13 @@ loop-again : tie.Need-loop-again Inv-loop μ-loop
 loop-again c =
     let l = c .before .before in
     let a = l .before .args in
-    (omega arith, fill-step (λ k. cond (eqb (a .w) (getD (a .t2) k 0)) (a .l) (getD (a .t1) k 0)) 8 0 (l .loop .i) (l .loop .r) (c .label-of .result) (omega arith) (l .loop .inv .1) (c .label-of .ensures))
+    (omega arith, fill-step (λ k. cond (eqb (a .w) (getD (a .t2) k 0)) (a .l) (getD (a .t1) k 0)) degreeLimit 0 (l .loop .i) (l .loop .r) (c .label-of .result) (omega arith) (l .loop .inv .1) (c .label-of .ensures))
 
 returns : tie.Need-returns Inv-loop μ-loop
 returns c =
     let l = c .before in
     let a = l .before .args in
-    fill-done (λ k. cond (eqb (a .w) (getD (a .t2) k 0)) (a .l) (getD (a .t1) k 0)) 8 0 (l .loop .i) (l .loop .r) (omega arith) (l .loop .inv .1)
+    fill-done (λ k. cond (eqb (a .w) (getD (a .t2) k 0)) (a .l) (getD (a .t1) k 0)) degreeLimit 0 (l .loop .i) (l .loop .r) (omega arith) (l .loop .inv .1)
 
 pub label-in-spec : {M : Type 1} → statement M
 label-in-spec =

@@ -1,6 +1,7 @@
 -- `neighbour_table` meets its contract. Assumes nothing.
 use Prim.Native.Nat.{_-_, _≤_, _<_}
 use mathlib.Core.Path.{_≡_}
+use Rattle.model.specs.Limits.{vertexLimit}
 use Rattle.model.specs.Graph.{joinedBy}
 use Rattle.trees.specs.Accepted.{Ends}
 use Rattle.adjacency.specs.NeighbourSteps.{rows, no-rows, joined-rows, rows-end}
@@ -24,7 +25,7 @@ low-a c = let l = c .before .before .before in omega (arith, ends (l .before) .l
 low-b : (c : tie.After-end-b Inv-loop μ-loop) → c .end-b .result < c .before .before .before .before .vertex-count .result
 low-b c = let l = c .before .before .before in omega (arith, ends (l .before) .low (l .loop .j) (omega arith), c .end-b .ensures)
 
-few : (c : tie.After-end-b Inv-loop μ-loop) → c .before .before .before .before .vertex-count .result ≤ 64
+few : (c : tie.After-end-b Inv-loop μ-loop) → c .before .before .before .before .vertex-count .result ≤ vertexLimit
 few c = ends (c .before .before .before .before) .few
 
 vertex-count-requires : tie.Need-vertex-count-requires Inv-loop μ-loop
@@ -95,7 +96,7 @@ returns : tie.Need-returns Inv-loop μ-loop
 returns c =
     let l = c .before in
     let n = l .before .vertex-count in
-    let few : n .result ≤ 64 = ends (l .before) .few in
+    let few : n .result ≤ vertexLimit = ends (l .before) .few in
     rows-end (l .before .before .before .args .s .now) (n .result) (l .loop .j) (l .loop .t) (n .ensures) (omega arith) (l .loop .inv .1)
 
 pub neighbour-table-spec : {M : Type 1} → statement M

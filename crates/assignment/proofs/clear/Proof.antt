@@ -3,6 +3,7 @@ use mathlib.Core.Path.{_≡_}
 use Prim.Native.Nat.{_-_, _≤_}
 use lib.ListN.{length, length-set}
 use borrow.Author.Needs.{needs}
+use Rattle.model.specs.Limits.{pairLimit}
 use Rattle.assignment.specs.State.{Cleared}
 use Rattle.assignment.specs.Matching.{cell}
 use Rattle.assignment.proofs.Roots.{before, cleared-none, cleared-more, cleared-end}
@@ -10,7 +11,7 @@ use Rattle.assignment.proofs.clear.Statement.{statement}
 use Rattle.assignment.proofs.clear.Tie as tie
 
 abbrev Inv-loop : tie.InvT-loop
-Inv-loop g₀ k c i₀ g i = (i ≤ k) × (length g ≡ 64) × Cleared i c (cell g₀) (cell g)
+Inv-loop g₀ k c i₀ g i = (i ≤ k) × (length g ≡ pairLimit) × Cleared i c (cell g₀) (cell g)
 
 abbrev μ-loop : tie.MeasureT-loop
 μ-loop g₀ k c i₀ g i = k - i

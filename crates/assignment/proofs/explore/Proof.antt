@@ -4,7 +4,7 @@ use native.Mathlib.Omega.{arith}
 use borrow.Author.Needs.{needs}
 use Rattle.assignment.specs.Tree.{Turn, outside}
 use Rattle.assignment.specs.Matching.{at, cell}
-use Rattle.assignment.proofs.Turns.{turn-start, room-row, a-eight, turn-end-row, b-eight, from-eight, room-column, turn-end-column, base-small, columns-small, fewer, turn-grow}
+use Rattle.assignment.proofs.Turns.{turn-start, room-row, a-low, turn-end-row, b-low, from-low, room-column, turn-end-column, base-small, columns-small, fewer, turn-grow}
 use Rattle.assignment.proofs.explore.Statement.{statement}
 use Rattle.assignment.proofs.explore.Tie as tie
 
@@ -31,7 +31,7 @@ loop-holds c = turn-start _ (c .before .byte .ensures) (c .before .before .pre)
 
 array-read-place : tie.Need-array-read-place Inv-loop μ-loop
 array-read-place c =
-    let s = c .before .before .before .before in b-eight (s .pre) (c .before .loop .inv) (c .loop-test .taken)
+    let s = c .before .before .before .before in b-low (s .pre) (c .before .loop .inv) (c .loop-test .taken)
 
 place-requires : tie.Need-place-requires Inv-loop μ-loop
 place-requires c κs = search needs
@@ -40,7 +40,7 @@ element-copy-out-t : tie.Need-element-copy-out-t Inv-loop μ-loop
 element-copy-out-t c =
     let t = c .before in
     let s = t .before .before .before .before in
-    b-eight (s .pre) (t .before .loop .inv) (t .loop-test .taken)
+    b-low (s .pre) (t .before .loop .inv) (t .loop-test .taken)
 
 place-requires-2 : tie.Need-place-requires-2 Inv-loop μ-loop
 place-requires-2 c κs = search needs
@@ -55,25 +55,25 @@ mul-n : tie.Need-mul-n Inv-loop μ-loop
 mul-n c =
     let t = c .before .before .before .before .before .before .before .before .before .before .before in
     let s = t .before .before .before .before in
-    omega (arith, from-eight (s .pre) (t .before .loop .inv) (t .loop-test .taken), c .before .before .before .before .before .before .before .before .before .before .place .ensures)
+    omega (arith, from-low (s .pre) (t .before .loop .inv) (t .loop-test .taken), c .before .before .before .before .before .before .before .before .before .before .place .ensures)
 
 array-copy-out-n : tie.Need-array-copy-out-n Inv-loop μ-loop
 array-copy-out-n c =
     let t = c .before .before .before .before .before .before .before .before .before .before .before in
     let s = t .before .before .before .before in
-    omega (arith, from-eight (s .pre) (t .before .loop .inv) (t .loop-test .taken), c .before .before .before .before .before .before .before .before .before .before .place .ensures)
+    omega (arith, from-low (s .pre) (t .before .loop .inv) (t .loop-test .taken), c .before .before .before .before .before .before .before .before .before .before .place .ensures)
 
 byte-requires-2 : tie.Need-byte-requires-2 Inv-loop μ-loop
 byte-requires-2 c κs =
     let t = c .before .before .before .before .before .before .before .before .before .before .before .before in
     let s = t .before .before .before .before in
-    b-eight (s .pre) (t .before .loop .inv) (t .loop-test .taken)
+    b-low (s .pre) (t .before .loop .inv) (t .loop-test .taken)
 
 array-write-n : tie.Need-array-write-n Inv-loop μ-loop
 array-write-n c =
     let t = c .before .before .before .before .before .before .before .before .before .before .before .before .before in
     let s = t .before .before .before .before in
-    omega (arith, from-eight (s .pre) (t .before .loop .inv) (t .loop-test .taken), c .before .before .before .before .before .before .before .before .before .before .before .before .place .ensures)
+    omega (arith, from-low (s .pre) (t .before .loop .inv) (t .loop-test .taken), c .before .before .before .before .before .before .before .before .before .before .before .before .place .ensures)
 
 returns : tie.Need-returns Inv-loop μ-loop
 returns c =
@@ -86,7 +86,7 @@ grow-requires : tie.Need-grow-requires Inv-loop μ-loop
 grow-requires c κs =
     let t = c .before .before .before .before .before .before .before .before in
     let s = t .before .before .before .before in
-    (omega (arith, from-eight (s .pre) (t .before .loop .inv) (t .loop-test .taken), c .before .before .before .before .before .before .before .place .ensures), b-eight (s .pre) (t .before .loop .inv) (t .loop-test .taken), c .before .before .before .before .if1 .left)
+    (omega (arith, from-low (s .pre) (t .before .loop .inv) (t .loop-test .taken), c .before .before .before .before .before .before .before .place .ensures), b-low (s .pre) (t .before .loop .inv) (t .loop-test .taken), c .before .before .before .before .if1 .left)
 
 mul-base : tie.Need-mul-base Inv-loop μ-loop
 mul-base c = search needs
@@ -146,7 +146,7 @@ mul-m c = search needs
 array-copy-out-m : tie.Need-array-copy-out-m Inv-loop μ-loop
 array-copy-out-m c =
     let t = c .before .before .before .before .before .before .before in
-    a-eight (t .before .before .before .before .pre) (t .before .loop .inv)
+    a-low (t .before .before .before .before .pre) (t .before .loop .inv)
 
 returns-2 : tie.Need-returns-2 Inv-loop μ-loop
 returns-2 c =

@@ -5,7 +5,7 @@ use native.Mathlib.Omega.{arith}
 use borrow.Author.Needs.{needs}
 use Rattle.assignment.specs.Matching.{gainLimit}
 use Rattle.assignment.proofs.Duality.{column-limit}
-use Rattle.assignment.proofs.Roots.{rooted, end-covered, near-eight, end-free, end-explored, before}
+use Rattle.assignment.proofs.Roots.{rooted, end-covered, near-low, end-free, end-explored, before}
 use Rattle.assignment.proofs.search.Statement.{statement}
 use Rattle.assignment.proofs.search.Tie as tie
 
@@ -35,7 +35,7 @@ array-read-if2 c =
     let f = c .before in
     let o = f .before .before .before in
     let s = o .before .before in
-    near-eight (s .pre .2) (rooted (s .pre .0) (s .pre .1) (s .pre .2) (s .pre .3) (s .pre .4) refl (o .owners .ensures) (f .look-first .ensures)) (c .if1 .left)
+    near-low (s .pre .2) (rooted (s .pre .0) (s .pre .1) (s .pre .2) (s .pre .3) (s .pre .4) refl (o .owners .ensures) (f .look-first .ensures)) (c .if1 .left)
 
 sub-y : tie.Need-sub-y
 sub-y c = search needs
@@ -51,7 +51,7 @@ byte-requires c κs =
     let f = c .before .before in
     let o = f .before .before .before in
     let s = o .before .before in
-    near-eight (s .pre .2) (rooted (s .pre .0) (s .pre .1) (s .pre .2) (s .pre .3) (s .pre .4) refl (o .owners .ensures) (f .look-first .ensures)) (c .before .if1 .left)
+    near-low (s .pre .2) (rooted (s .pre .0) (s .pre .1) (s .pre .2) (s .pre .3) (s .pre .4) refl (o .owners .ensures) (f .look-first .ensures)) (c .before .if1 .left)
 
 element-write-m : tie.Need-element-write-m
 element-write-m c = search needs

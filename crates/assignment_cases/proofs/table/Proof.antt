@@ -3,15 +3,16 @@ use mathlib.Core.Path.{_≡_, refl}
 use Prim.Native.Nat.{_-_, _≤_}
 use lib.ListN.{length}
 use borrow.Author.Needs.{needs}
+use Rattle.model.specs.Limits.{pairLimit}
 use Rattle.assignment_cases.specs.Small.{Small, small-none, small-more, small-end}
 use Rattle.assignment_cases.proofs.table.Statement.{statement}
 use Rattle.assignment_cases.proofs.table.Tie as tie
 
 abbrev Inv-loop : tie.InvT-loop
-Inv-loop kind seed g₀ s₀ i₀ g s i = (i ≤ 64) × (length g ≡ 64) × Small i g
+Inv-loop kind seed g₀ s₀ i₀ g s i = (i ≤ pairLimit) × (length g ≡ pairLimit) × Small i g
 
 abbrev μ-loop : tie.MeasureT-loop
-μ-loop kind seed g₀ s₀ i₀ g s i = 64 - i
+μ-loop kind seed g₀ s₀ i₀ g s i = pairLimit - i
 
 loop-holds : tie.Need-loop-holds Inv-loop μ-loop
 loop-holds c = (search needs, refl, small-none _)

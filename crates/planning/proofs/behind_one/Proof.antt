@@ -3,6 +3,7 @@ use native.Mathlib.Omega.{arith}
 use Prim.Native.Nat.{_≤_}
 use mathlib.Core.Path.{refl}
 use borrow.Author.Needs.{needs}
+use Rattle.model.specs.Limits.{degreeLimit}
 use Rattle.planning.proofs.behind_one.Statement.{statement}
 use Rattle.planning.proofs.behind_one.Tie as tie
 
@@ -26,13 +27,13 @@ add-result c =
 add-result-2 : tie.Need-add-result-2
 add-result-2 c =
     let a = c .before .before .before .before in
-    let f : c .before .find .result ≤ 8 = c .before .find .ensures .few in
+    let f : c .before .find .result ≤ degreeLimit = c .before .find .ensures .few in
     omega (arith, a .pre (a .args .x))
 
 returns : tie.Need-returns
 returns c =
     let a = c .before .before .before .before in
-    let f : c .before .find .result ≤ 8 = c .before .find .ensures .few in
+    let f : c .before .find .result ≤ degreeLimit = c .before .find .ensures .few in
     record { at = c .before .find .result; found = λ l. c .before .find .ensures; is = λ l. refl; small = omega (arith, a .pre (a .args .x)) }
 
 returns-2 : tie.Need-returns-2

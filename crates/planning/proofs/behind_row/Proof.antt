@@ -1,4 +1,5 @@
 -- `behind_row` meets its contract. Assumes nothing.
+use Rattle.model.specs.Limits.{degreeLimit}
 use Rattle.planning.specs.Making.{BehindTo, behind-none, behind-more}
 use Prim.Native.Nat.{_≤_, _-_}
 use mathlib.Core.Path.{_≡_, refl}
@@ -8,10 +9,10 @@ use Rattle.planning.proofs.behind_row.Statement.{statement}
 use Rattle.planning.proofs.behind_row.Tie as tie
 
 abbrev Inv-loop : tie.InvT-loop
-Inv-loop neighbours starts v row r₀ j₀ r j = (j ≤ 8) × BehindTo neighbours starts v j r
+Inv-loop neighbours starts v row r₀ j₀ r j = (j ≤ degreeLimit) × BehindTo neighbours starts v j r
 
 abbrev μ-loop : tie.MeasureT-loop
-μ-loop neighbours starts v row r₀ j₀ r j = 8 - j
+μ-loop neighbours starts v row r₀ j₀ r j = degreeLimit - j
 
 mul-row : tie.Need-mul-row Inv-loop μ-loop
 mul-row c = search needs
@@ -37,7 +38,7 @@ loop-again c =
     (omega arith, behind-more _ _ _ (l .loop .j) (l .loop .r) (c .behind-one .result) (omega arith) (l .loop .inv .1) (c .behind-one .ensures))
 
 returns : tie.Need-returns Inv-loop μ-loop
-returns c = let e : c .before .loop .j ≡ 8 = omega arith in rw e at (c .before .loop .inv .1)
+returns c = let e : c .before .loop .j ≡ degreeLimit = omega arith in rw e at (c .before .loop .inv .1)
 
 pub behind-row-spec : {M : Type 1} → statement M
 behind-row-spec =

@@ -1,6 +1,7 @@
 -- `children` meets its contract. Assumes nothing.
 use Prim.Native.Nat.{_≤_, _-_}
 use mathlib.Core.Path.{_≡_, refl}
+use Rattle.model.specs.Limits.{degreeLimit}
 use Rattle.planning.specs.Making.{ChildrenTo, children-none, children-more}
 use borrow.Author.Needs.{needs}
 use native.Mathlib.Omega.{arith}
@@ -8,10 +9,10 @@ use Rattle.planning.proofs.children.Statement.{statement}
 use Rattle.planning.proofs.children.Tie as tie
 
 abbrev Inv-loop : tie.InvT-loop
-Inv-loop place own neighbours labels vertex₀ label₀ at₀ c₀ i₀ vertex label at c i = (i ≤ 8) × ChildrenTo neighbours labels place own i c label at vertex
+Inv-loop place own neighbours labels vertex₀ label₀ at₀ c₀ i₀ vertex label at c i = (i ≤ degreeLimit) × ChildrenTo neighbours labels place own i c label at vertex
 
 abbrev μ-loop : tie.MeasureT-loop
-μ-loop place own neighbours labels vertex₀ label₀ at₀ c₀ i₀ vertex label at c i = 8 - i
+μ-loop place own neighbours labels vertex₀ label₀ at₀ c₀ i₀ vertex label at c i = degreeLimit - i
 
 loop-holds : tie.Need-loop-holds Inv-loop μ-loop
 loop-holds c = (omega arith, children-none _ _ _ _ _ _ _ refl refl refl)
@@ -53,7 +54,7 @@ loop-again c =
     (omega arith, children-more _ _ _ (a .own) (l .loop .i) (l .loop .c) (l .loop .label) (l .loop .at) (l .loop .vertex) _ (c .before .place-or .result) _ (c .next .result) (omega arith) (l .loop .inv .1) refl (c .before .place-or .ensures) refl (c .next .ensures))
 
 returns : tie.Need-returns Inv-loop μ-loop
-returns c = let e : c .before .loop .i ≡ 8 = omega arith in rw e at (c .before .loop .inv .1)
+returns c = let e : c .before .loop .i ≡ degreeLimit = omega arith in rw e at (c .before .loop .inv .1)
 
 pub children-spec : {M : Type 1} → statement M
 children-spec =

@@ -4,14 +4,15 @@ use mathlib.Core.Path.{_≡_}
 use lib.ListN.{getD}
 use borrow.Author.Count.{below-more}
 use borrow.Author.Needs.{needs}
+use Rattle.model.specs.Limits.{degreeLimit}
 use Rattle.planning.proofs.find.Statement.{statement}
 use Rattle.planning.proofs.find.Tie as tie
 
 abbrev Inv-loop : tie.InvT-loop
-Inv-loop v row i₀ i = (i ≤ 8) × ((k : ℕ) → k < i → getD row k 0 ≡ v → ⊥)
+Inv-loop v row i₀ i = (i ≤ degreeLimit) × ((k : ℕ) → k < i → getD row k 0 ≡ v → ⊥)
 
 abbrev μ-loop : tie.MeasureT-loop
-μ-loop v row i₀ i = 8 - i
+μ-loop v row i₀ i = degreeLimit - i
 
 loop-holds : tie.Need-loop-holds Inv-loop μ-loop
 loop-holds c = search needs

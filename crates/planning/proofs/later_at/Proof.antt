@@ -7,15 +7,16 @@ use native.Mathlib.Omega.{arith}
 use lib.ListN.{getD}
 use borrow.Author.Count.{below-more}
 use borrow.Author.Needs.{needs}
+use Rattle.model.specs.Limits.{degreeLimit}
 use Rattle.planning.specs.Parents.{isLater}
 use Rattle.planning.proofs.later_at.Statement.{statement}
 use Rattle.planning.proofs.later_at.Tie as tie
 
 abbrev Inv-loop : tie.InvT-loop
-Inv-loop place own row i₀ i = (i ≤ 8) × ((k : ℕ) → k < i → isLater place own (getD row k 0) ≡ true → ⊥)
+Inv-loop place own row i₀ i = (i ≤ degreeLimit) × ((k : ℕ) → k < i → isLater place own (getD row k 0) ≡ true → ⊥)
 
 abbrev μ-loop : tie.MeasureT-loop
-μ-loop place own row i₀ i = 8 - i
+μ-loop place own row i₀ i = degreeLimit - i
 
 loop-holds : tie.Need-loop-holds Inv-loop μ-loop
 loop-holds c = (omega arith, λ k h. absurd (not-suc-le-zero h))

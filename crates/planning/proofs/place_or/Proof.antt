@@ -1,5 +1,6 @@
 -- `place_or` meets its contract. Assumes nothing.
 use borrow.Author.Tests.{lt-ltb, le-ltb}
+use Rattle.model.specs.Limits.{vertexLimit}
 use Rattle.planning.specs.Making.{placeOr}
 use borrow.Author.Needs.{needs}
 use Rattle.planning.proofs.place_or.Statement.{statement}
@@ -10,11 +11,11 @@ element-copy-out-result c = search needs
 
 returns : tie.Need-returns
 unfolding placeOr
-returns c = rw (lt-ltb _ 64 (c .before .if1 .taken))
+returns c = rw (lt-ltb _ vertexLimit (c .before .if1 .taken))
 
 returns-2 : tie.Need-returns-2
 unfolding placeOr
-returns-2 c = rw (le-ltb _ 64 (c .if1 .left))
+returns-2 c = rw (le-ltb _ vertexLimit (c .if1 .left))
 
 pub place-or-spec : {M : Type 1} → statement M
 place-or-spec = tie.close (tie.spec element-copy-out-result returns returns-2)

@@ -1,7 +1,8 @@
 -- `starts` meets its contract. Assumes nothing.
+use Rattle.model.specs.Limits.{vertexLimit, degreeLimit}
 use Rattle.model.specs.Tree.{count}
 use Rattle.planning.specs.Making.{zeros, Starts, starts-none, starts-more}
-use Prim.Native.Nat.{_≤_, _-_}
+use Prim.Native.Nat.{_+_, _≤_, _-_}
 use mathlib.Core.Path.{_≡_, refl}
 use borrow.Author.Needs.{needs}
 use native.Mathlib.Omega.{arith}
@@ -20,7 +21,7 @@ vertex-count-requires c κs =
     record { some = e .some; few = e .few; long = e .long }
 
 loop-holds : tie.Need-loop-holds Inv-loop μ-loop
-loop-holds c = (omega arith, search needs, starts-none _ _ refl (zeros 65))
+loop-holds c = (omega arith, search needs, starts-none _ _ refl (zeros (vertexLimit + 1)))
 
 mul-taken : tie.Need-mul-taken Inv-loop μ-loop
 mul-taken c = search needs
@@ -38,7 +39,7 @@ add-s : tie.Need-add-s Inv-loop μ-loop
 add-s c = omega (arith, c .before .before .before .loop .inv .2 .small (c .before .before .before .loop .v))
 
 add-s-2 : tie.Need-add-s-2 Inv-loop μ-loop
-add-s-2 c = let k : c .taken .result ≤ 8 = c .taken .ensures .few in omega (arith, c .before .before .before .loop .inv .2 .small (c .before .before .before .loop .v))
+add-s-2 c = let k : c .taken .result ≤ degreeLimit = c .taken .ensures .few in omega (arith, c .before .before .before .loop .inv .2 .small (c .before .before .before .loop .v))
 
 add-s-3 : tie.Need-add-s-3 Inv-loop μ-loop
 add-s-3 c = search needs

@@ -1,4 +1,5 @@
 -- `store_found` meets its contract. Assumes nothing.
+use Rattle.model.specs.Limits.{vertexLimit}
 use Rattle.planning.specs.Rows.{FoundHalf, found-none, found-more}
 use Rattle.model.specs.Tree.{count}
 use Prim.Native.Nat.{_≤_, _-_}
@@ -9,7 +10,7 @@ use Rattle.planning.proofs.store_found.Statement.{statement}
 use Rattle.planning.proofs.store_found.Tie as tie
 
 abbrev Inv-loop : tie.InvT-loop
-Inv-loop plan₀ found neighbours labels starts m v₀ plan v = (v ≤ m) × (m ≡ count found) × (m ≤ 64) × FoundHalf found plan₀ plan v
+Inv-loop plan₀ found neighbours labels starts m v₀ plan v = (v ≤ m) × (m ≡ count found) × (m ≤ vertexLimit) × FoundHalf found plan₀ plan v
 
 abbrev μ-loop : tie.MeasureT-loop
 μ-loop plan₀ found neighbours labels starts m v₀ plan v = m - v

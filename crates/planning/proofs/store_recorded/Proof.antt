@@ -1,4 +1,5 @@
 -- `store_recorded` meets its contract. Assumes nothing.
+use Rattle.model.specs.Limits.{vertexLimit}
 use Rattle.planning.specs.Rows.{RecordedHalf, recorded-none, recorded-more}
 use Rattle.model.specs.Tree.{count}
 use Prim.Native.Nat.{_≤_, _-_}
@@ -9,7 +10,7 @@ use Rattle.planning.proofs.store_recorded.Statement.{statement}
 use Rattle.planning.proofs.store_recorded.Tie as tie
 
 abbrev Inv-loop : tie.InvT-loop
-Inv-loop plan₀ recorded neighbours labels order place n u₀ plan u = (u ≤ n) × (n ≡ count recorded) × (n ≤ 64) × RecordedHalf recorded plan₀ plan u
+Inv-loop plan₀ recorded neighbours labels order place n u₀ plan u = (u ≤ n) × (n ≡ count recorded) × (n ≤ vertexLimit) × RecordedHalf recorded plan₀ plan u
 
 abbrev μ-loop : tie.MeasureT-loop
 μ-loop plan₀ recorded neighbours labels order place n u₀ plan u = n - u

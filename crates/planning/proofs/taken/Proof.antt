@@ -4,14 +4,15 @@ use mathlib.Core.Path.{_≡_}
 use lib.ListN.{getD}
 use borrow.Author.Count.{below-more}
 use borrow.Author.Needs.{needs}
+use Rattle.model.specs.Limits.{degreeLimit, noVertex}
 use Rattle.planning.proofs.taken.Statement.{statement}
 use Rattle.planning.proofs.taken.Tie as tie
 
 abbrev Inv-loop : tie.InvT-loop
-Inv-loop row k₀ k = (k ≤ 8) × ((i : ℕ) → i < k → getD row i 0 ≡ 255 → ⊥)
+Inv-loop row k₀ k = (k ≤ degreeLimit) × ((i : ℕ) → i < k → getD row i 0 ≡ noVertex → ⊥)
 
 abbrev μ-loop : tie.MeasureT-loop
-μ-loop row k₀ k = 8 - k
+μ-loop row k₀ k = degreeLimit - k
 
 loop-holds : tie.Need-loop-holds Inv-loop μ-loop
 loop-holds c = search needs

@@ -1,4 +1,5 @@
 -- `places` stores where each vertex stands. The invariant: the first i are stored. Assumes nothing.
+use Rattle.model.specs.Limits.{vertexLimit}
 use Rattle.trees.specs.Visits.{Placed, placed-more}
 use native.Mathlib.Omega.{arith}
 use mathlib.Core.Path.{_≡_, refl, subst}
@@ -14,7 +15,7 @@ Inv-loop at len p₀ i₀ p i = (i ≤ len) × Placed at i p
 abbrev μ-loop : tie.MeasureT-loop
 μ-loop at len p₀ i₀ p i = len - i
 
-low : (c : tie.In-loop Inv-loop μ-loop) → getD (c .before .before .before .args .o .at) (c .before .loop .i) 0 < 64
+low : (c : tie.In-loop Inv-loop μ-loop) → getD (c .before .before .before .args .o .at) (c .before .loop .i) 0 < vertexLimit
 low c = c .before .before .before .pre .low (c .before .loop .i) (c .loop-test .taken)
 
 loop-holds : tie.Need-loop-holds Inv-loop μ-loop

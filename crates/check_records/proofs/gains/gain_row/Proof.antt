@@ -3,6 +3,7 @@ use Prim.Native.Nat.{_≤_, _<_, _-_}
 use mathlib.Core.Path.{_≡_, _∙_}
 use lib.ListN.{length}
 use Rattle.foundations.specs.Machine.{Same, back}
+use Rattle.model.specs.Limits.{degreeLimit}
 use Rattle.model.specs.Certificate.{valueOf}
 use Rattle.model.specs.Graph.{neighbours}
 use Rattle.plan.specs.Plan.{childPlaceIn, childEdgeIn}
@@ -16,7 +17,7 @@ use Rattle.check_records.proofs.gains.gain_row.Statement.{statement}
 use Rattle.check_records.proofs.gains.gain_row.Tie as tie
 
 abbrev Inv-loop : tie.InvT-loop
-Inv-loop g₀ table recorded found plan places certificate u v i row first own edge l j₀ g j = (j ≤ l) × (l ≤ 8) × (i < 8) × (l ≡ length (neighbours found v)) × (row ≡ childPlaceIn plan u i) × (edge ≡ childEdgeIn plan u i) × RowBegins recorded found row first own × RowFilled j i (gainAt table recorded found (valueOf recorded found certificate) u v i) g₀ g
+Inv-loop g₀ table recorded found plan places certificate u v i row first own edge l j₀ g j = (j ≤ l) × (l ≤ degreeLimit) × (i < degreeLimit) × (l ≡ length (neighbours found v)) × (row ≡ childPlaceIn plan u i) × (edge ≡ childEdgeIn plan u i) × RowBegins recorded found row first own × RowFilled j i (gainAt table recorded found (valueOf recorded found certificate) u v i) g₀ g
 
 abbrev μ-loop : tie.MeasureT-loop
 μ-loop g₀ table recorded found plan places certificate u v i row first own edge l j₀ g j = l - j

@@ -3,6 +3,7 @@ use mathlib.Core.Path.{_≡_, refl, _∙_}
 use Prim.Native.Nat.{_+_, _-_, _≤_}
 use Rattle.foundations.specs.Lists.{every, every-step, every-end}
 use Rattle.foundations.specs.Machine.{Same}
+use Rattle.model.specs.Limits.{degreeLimit}
 use Rattle.model.specs.Order.{offset}
 use Rattle.plan.specs.Plan.{degreeIn}
 use Rattle.records.specs.Places.{size-known, found-known}
@@ -13,7 +14,7 @@ use Rattle.check_records.proofs.record.choices_ok.Statement.{statement}
 use Rattle.check_records.proofs.record.choices_ok.Tie as tie
 
 abbrev Inv-loop : tie.InvT-loop
-Inv-loop table recorded found plan places certificate i v g w n d ok₀ q₀ ok q = (q ≤ d + 1) × (d ≡ degreeIn plan v) × (d ≤ 8) × (ok ≡ every (λ x. inRow table recorded found certificate i (offset found v + x)) q)
+Inv-loop table recorded found plan places certificate i v g w n d ok₀ q₀ ok q = (q ≤ d + 1) × (d ≡ degreeIn plan v) × (d ≤ degreeLimit) × (ok ≡ every (λ x. inRow table recorded found certificate i (offset found v + x)) q)
 
 abbrev μ-loop : tie.MeasureT-loop
 μ-loop table recorded found plan places certificate i v g w n d ok₀ q₀ ok q = d + 1 - q

@@ -4,6 +4,7 @@ use Prim.Native.Nat.{ℕ, _-_, _≤_}
 use lib.Dec.{leb}
 use lib.ListN.{getD}
 use Rattle.foundations.specs.Lists.{every, every-step, every-end, getD-tab}
+use Rattle.model.specs.Limits.{degreeLimit, vertexLimit}
 use Rattle.model.specs.Tree.{degree, fewEdges}
 use borrow.Author.Needs.{needs}
 use native.Mathlib.Omega.{arith}
@@ -11,7 +12,7 @@ use Rattle.formats.proofs.tree.are_edges_few.Statement.{statement}
 use Rattle.formats.proofs.tree.are_edges_few.Tie as tie
 
 abbrev Inv-loop : tie.InvT-loop
-Inv-loop s n d ok₀ v₀ ok v = (v ≤ n) × (ok ≡ every (λ x. leb (degree s n x (n - 1)) 8) v)
+Inv-loop s n d ok₀ v₀ ok v = (v ≤ n) × (ok ≡ every (λ x. leb (degree s n x (n - 1)) degreeLimit) v)
 
 abbrev μ-loop : tie.MeasureT-loop
 μ-loop s n d ok₀ v₀ ok v = n - v
@@ -33,14 +34,14 @@ loop-again c =
     let s = l .before .before .before in
     let few = s .pre .few in
     let p : ℕ → ℕ = λ x. degree (s .args .s .now) (s .args .n) x (s .args .n - 1) in
-    (omega arith, every-step (λ x. leb (p x) 8) (l .loop .v) (l .loop .ok) _ (l .loop .inv .1) (ap (λ x. leb x 8) (ap (λ y. getD y (l .loop .v) 0) (d .ensures) ∙ getD-tab p 64 (l .loop .v) 0 (omega arith))))
+    (omega arith, every-step (λ x. leb (p x) degreeLimit) (l .loop .v) (l .loop .ok) _ (l .loop .inv .1) (ap (λ x. leb x degreeLimit) (ap (λ y. getD y (l .loop .v) 0) (d .ensures) ∙ getD-tab p vertexLimit (l .loop .v) 0 (omega arith))))
 
 returns : tie.Need-returns Inv-loop μ-loop
 unfolding fewEdges
 returns c =
     let l = c .before in
     let s = l .before .before .before in
-    every-end (λ x. leb (degree (s .args .s .now) (s .args .n) x (s .args .n - 1)) 8) (l .loop .v) (s .args .n) (l .loop .ok) (l .loop .inv .1) (omega arith)
+    every-end (λ x. leb (degree (s .args .s .now) (s .args .n) x (s .args .n - 1)) degreeLimit) (l .loop .v) (s .args .n) (l .loop .ok) (l .loop .inv .1) (omega arith)
 
 pub are-edges-few-spec : {M : Type 1} → statement M
 are-edges-few-spec =

@@ -4,6 +4,7 @@ use Prim.Native.Nat.{ℕ, _+_, _-_, _≤_, _<_}
 use lib.Dec.{eqb}
 use lib.ListN.{getD}
 use Rattle.foundations.specs.Lists.{tab}
+use Rattle.model.specs.Limits.{vertexLimit}
 use Rattle.model.specs.Tree.{degree}
 use Rattle.formats.specs.TreeItems.{degree-more, degree-low, degree-after, zero-or-one}
 use borrow.Author.Needs.{needs}
@@ -12,18 +13,18 @@ use Rattle.formats.proofs.tree.degrees.Statement.{statement}
 use Rattle.formats.proofs.tree.degrees.Tie as tie
 
 abbrev Inv-loop : tie.InvT-loop
-Inv-loop s n d₀ j₀ d j = (j ≤ n - 1) × (d ≡ tab (λ v. degree s n v j) 64)
+Inv-loop s n d₀ j₀ d j = (j ≤ n - 1) × (d ≡ tab (λ v. degree s n v j) vertexLimit)
 
 abbrev μ-loop : tie.MeasureT-loop
 μ-loop s n d₀ j₀ d j = n - j
 
-low-a : (c : tie.After-end-b Inv-loop μ-loop) → c .before .end-a .result < 64
+low-a : (c : tie.After-end-b Inv-loop μ-loop) → c .before .end-a .result < vertexLimit
 low-a c =
     let l = c .before .before .before in
     let e = l .before .before .pre in
     omega (arith, e .low (l .loop .j) (omega arith), e .few, c .before .end-a .ensures)
 
-low-b : (c : tie.After-end-b Inv-loop μ-loop) → c .end-b .result < 64
+low-b : (c : tie.After-end-b Inv-loop μ-loop) → c .end-b .result < vertexLimit
 low-b c =
     let l = c .before .before .before in
     let e = l .before .before .pre in
@@ -33,7 +34,7 @@ low-b c =
 first : (c : tie.After-end-b Inv-loop μ-loop) → getD (c .before .before .before .loop .d) (c .before .end-a .result) 0 ≤ c .before .before .before .loop .j
 first c = let l = c .before .before .before in degree-low (l .before .before .args .s .now) (l .before .before .args .n) (l .loop .j) (c .before .end-a .result) (l .loop .d) (low-a c) (l .loop .inv .1)
 
-few : (c : tie.After-end-b Inv-loop μ-loop) → c .before .before .before .loop .j < 64
+few : (c : tie.After-end-b Inv-loop μ-loop) → c .before .before .before .loop .j < vertexLimit
 few c = let l = c .before .before .before in let e = l .before .before .pre in omega (arith, e .few)
 
 loop-holds : tie.Need-loop-holds Inv-loop μ-loop
@@ -99,7 +100,7 @@ returns c =
     let l = c .before in
     let s = l .before .before in
     let e : l .loop .j ≡ s .args .n - 1 = omega arith in
-    l .loop .inv .1 ∙ ap (λ (k : ℕ). tab (λ v. degree (s .args .s .now) (s .args .n) v k) 64) e
+    l .loop .inv .1 ∙ ap (λ (k : ℕ). tab (λ v. degree (s .args .s .now) (s .args .n) v k) vertexLimit) e
 
 pub degrees-spec : {M : Type 1} → statement M
 degrees-spec =

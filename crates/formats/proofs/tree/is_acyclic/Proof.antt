@@ -1,4 +1,5 @@
 -- `is_acyclic` meets its contract. Assumes nothing.
+use Rattle.model.specs.Limits.{vertexLimit}
 use Rattle.model.specs.Edges.{component}
 use Rattle.model.specs.Tree.{closes, acyclic}
 use mathlib.Core.Bool.{not}
@@ -14,17 +15,17 @@ use Rattle.formats.proofs.tree.is_acyclic.Statement.{statement}
 use Rattle.formats.proofs.tree.is_acyclic.Tie as tie
 
 abbrev Inv-loop : tie.InvT-loop
-Inv-loop s n ok₀ l₀ j₀ ok l j = (j ≤ n - 1) × (ok ≡ every (λ i. not (closes s n i)) j) × (l ≡ tab (component (endA s n) (endB s n) j) 64)
+Inv-loop s n ok₀ l₀ j₀ ok l j = (j ≤ n - 1) × (ok ≡ every (λ i. not (closes s n i)) j) × (l ≡ tab (component (endA s n) (endB s n) j) vertexLimit)
 
 abbrev μ-loop : tie.MeasureT-loop
 μ-loop s n ok₀ l₀ j₀ ok l j = n - j
 
-low-a : (c : tie.After-end-b Inv-loop μ-loop) → c .before .end-a .result < 64
+low-a : (c : tie.After-end-b Inv-loop μ-loop) → c .before .end-a .result < vertexLimit
 low-a c =
     let e = c .before .before .before .before .before .before .pre in
     omega (arith, e .low (c .before .before .before .loop .j) (omega arith), e .few, c .before .end-a .ensures)
 
-low-b : (c : tie.After-end-b Inv-loop μ-loop) → c .end-b .result < 64
+low-b : (c : tie.After-end-b Inv-loop μ-loop) → c .end-b .result < vertexLimit
 low-b c =
     let e = c .before .before .before .before .before .before .pre in
     omega (arith, e .low (c .before .before .before .loop .j) (omega arith), e .few, c .end-b .ensures)
@@ -66,10 +67,10 @@ loop-again c =
     let a = l .before .before .before .args in
     let i = c .before .before .end-a .result in
     let k = c .before .end-b .result in
-    let la : i < 64 = low-a (c .before) in
-    let lb : k < 64 = low-b (c .before) in
-    let x : getD (l .loop .l) i 0 ≡ component (endA (a .s .now) (a .n)) (endB (a .s .now) (a .n)) (l .loop .j) (endA (a .s .now) (a .n) (l .loop .j)) = rw (l .loop .inv .2, getD-tab (component (endA (a .s .now) (a .n)) (endB (a .s .now) (a .n)) (l .loop .j)) 64 i 0 la, c .before .before .end-a .ensures) in
-    let y : getD (l .loop .l) k 0 ≡ component (endA (a .s .now) (a .n)) (endB (a .s .now) (a .n)) (l .loop .j) (endB (a .s .now) (a .n) (l .loop .j)) = rw (l .loop .inv .2, getD-tab (component (endA (a .s .now) (a .n)) (endB (a .s .now) (a .n)) (l .loop .j)) 64 k 0 lb, c .before .end-b .ensures) in
+    let la : i < vertexLimit = low-a (c .before) in
+    let lb : k < vertexLimit = low-b (c .before) in
+    let x : getD (l .loop .l) i 0 ≡ component (endA (a .s .now) (a .n)) (endB (a .s .now) (a .n)) (l .loop .j) (endA (a .s .now) (a .n) (l .loop .j)) = rw (l .loop .inv .2, getD-tab (component (endA (a .s .now) (a .n)) (endB (a .s .now) (a .n)) (l .loop .j)) vertexLimit i 0 la, c .before .before .end-a .ensures) in
+    let y : getD (l .loop .l) k 0 ≡ component (endA (a .s .now) (a .n)) (endB (a .s .now) (a .n)) (l .loop .j) (endB (a .s .now) (a .n) (l .loop .j)) = rw (l .loop .inv .2, getD-tab (component (endA (a .s .now) (a .n)) (endB (a .s .now) (a .n)) (l .loop .j)) vertexLimit k 0 lb, c .before .end-b .ensures) in
     (omega arith, closes-more (a .s .now) (a .n) (l .loop .j) (l .loop .ok) (l .loop .l) i k (l .loop .inv .1) (l .loop .inv .2) (c .before .before .end-a .ensures) (c .before .end-b .ensures) la lb, component-more (a .s .now) (a .n) (l .loop .j) (l .loop .l) (c .merged .result) (getD (l .loop .l) i 0) (getD (l .loop .l) k 0) (l .loop .inv .2) x y (c .merged .ensures))
 
 returns : tie.Need-returns Inv-loop μ-loop

@@ -6,14 +6,15 @@ use native.Mathlib.Omega.{arith}
 use mathlib.Core.Path.{_≡_, refl}
 use Prim.Native.Nat.{_-_, _≤_}
 use borrow.Author.Needs.{needs}
+use Rattle.model.specs.Limits.{vertexLimit}
 use Rattle.formats.proofs.tree.own_components.Statement.{statement}
 use Rattle.formats.proofs.tree.own_components.Tie as tie
 
 abbrev Inv-loop : tie.InvT-loop
-Inv-loop r₀ x₀ r x = (x ≤ 64) × (r ≡ tab (λ y. y) x ++ drop x (replicate 64 0))
+Inv-loop r₀ x₀ r x = (x ≤ vertexLimit) × (r ≡ tab (λ y. y) x ++ drop x (replicate vertexLimit 0))
 
 abbrev μ-loop : tie.MeasureT-loop
-μ-loop r₀ x₀ r x = 64 - x
+μ-loop r₀ x₀ r x = vertexLimit - x
 
 loop-holds : tie.Need-loop-holds Inv-loop μ-loop
 unfolding tab
@@ -28,12 +29,12 @@ array-write-r c = search needs
 loop-again : tie.Need-loop-again Inv-loop μ-loop
 loop-again c =
     let l = c .before .loop in
-    (omega arith, fill-step (λ y. y) 64 0 (l .x) (l .r) (l .x) (omega arith) (l .inv .1) refl)
+    (omega arith, fill-step (λ y. y) vertexLimit 0 (l .x) (l .r) (l .x) (omega arith) (l .inv .1) refl)
 
 returns : tie.Need-returns Inv-loop μ-loop
 returns c =
     let l = c .before .loop in
-    fill-done (λ y. y) 64 0 (l .x) (l .r) (omega arith) (l .inv .1)
+    fill-done (λ y. y) vertexLimit 0 (l .x) (l .r) (omega arith) (l .inv .1)
 
 pub own-components-spec : {M : Type 1} → statement M
 own-components-spec =

@@ -1,6 +1,7 @@
 -- `largest` meets its contract. Assumes nothing.
 use mathlib.Core.Path.{_≡_, _∙_}
 use Prim.Native.Nat.{_-_, _≤_, _<_}
+use Rattle.model.specs.Limits.{vertexLimit}
 use Rattle.model.specs.Tree.{count}
 use Rattle.trees.specs.Accepted.{whole}
 use Rattle.one_call.specs.Top.{TopOf, top-none, top-end, row-at, place-low}
@@ -10,7 +11,7 @@ use Rattle.one_call.proofs.top.largest.Statement.{statement}
 use Rattle.one_call.proofs.top.largest.Tie as tie
 
 abbrev Inv-loop : tie.InvT-loop
-Inv-loop work plan recorded found n m width top₀ u₀ top u = (u ≤ n) × (n ≤ 64) × TopOf recorded found work u 0 (top .weight) (top .u) (top .v)
+Inv-loop work plan recorded found n m width top₀ u₀ top u = (u ≤ n) × (n ≤ vertexLimit) × TopOf recorded found work u 0 (top .weight) (top .u) (top .v)
 
 abbrev μ-loop : tie.MeasureT-loop
 μ-loop work plan recorded found n m width top₀ u₀ top u = n - u

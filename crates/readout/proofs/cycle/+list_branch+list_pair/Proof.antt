@@ -6,6 +6,7 @@ use Prim.Native.Nat.{ℕ, _+_, _*_, _-_, _≤_, _<_}
 use mathlib.Core.Path.{_≡_, refl}
 use mathlib.Core.List.{List}
 use lib.ListN.{set}
+use Rattle.model.specs.Limits.{degreeLimit}
 use Rattle.plan.specs.Pairs.{pair-low}
 use Rattle.solver.specs.Mates.{sub-pair}
 use Rattle.readout.specs.Read.{Room, Reading}
@@ -77,7 +78,7 @@ list-branch-returns-2 t c =
 
 abbrev list-pair-Inv-loop : list-pair-lts.InvT-loop
 list-pair-Inv-loop table recorded found plan work u v s depth mapping₀ mates n i₀ mapping i =
-    (i ≤ n) × (n ≤ 8) × ((p : List ℕ) → mapping₀ ≡ set p u v → Room recorded u depth p → Reading table recorded found work u v mates p i mapping)
+    (i ≤ n) × (n ≤ degreeLimit) × ((p : List ℕ) → mapping₀ ≡ set p u v → Room recorded u depth p → Reading table recorded found work u v mates p i mapping)
 
 abbrev list-pair-μ-loop : list-pair-lts.MeasureT-loop
 list-pair-μ-loop table recorded found plan work u v s depth mapping₀ mates n i₀ mapping i = n - i

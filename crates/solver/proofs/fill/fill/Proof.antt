@@ -1,4 +1,5 @@
 -- `fill` meets its contract. Assumes nothing.
+use Rattle.model.specs.Limits.{pairLimit}
 use Rattle.solver.specs.FillLaws.{lesser-is, fill-none, fill-slice, fill-lent, row-run}
 use Rattle.plan.specs.Numbers.{number-low, number-few, ready-sound}
 use Rattle.model.specs.Values.{fill}
@@ -13,7 +14,7 @@ use Rattle.solver.proofs.fill.fill.Statement.{statement}
 use Rattle.solver.proofs.fill.fill.Tie as tie
 
 abbrev Inv-loop : tie.InvT-loop
-Inv-loop table recorded found plan work₀ from count width g₀ i₀ work g i = (i ≤ count) × (work ≡ fill table recorded found work₀ from i) × (length g ≡ 64)
+Inv-loop table recorded found plan work₀ from count width g₀ i₀ work g i = (i ≤ count) × (work ≡ fill table recorded found work₀ from i) × (length g ≡ pairLimit)
 
 abbrev μ-loop : tie.MeasureT-loop
 μ-loop table recorded found plan work₀ from count width g₀ i₀ work g i = count - i

@@ -1,4 +1,5 @@
 -- `fill_row` meets its contract. Assumes nothing.
+use Rattle.model.specs.Limits.{pairLimit}
 use Rattle.solver.specs.FillLaws.{lesser-is, fill-none, fill-slice, fill-lent, run-rest, run-room, pair-run}
 use Rattle.plan.specs.Numbers.{number-few, ready-accepted}
 use Rattle.plan.specs.Plan.{offsetIn}
@@ -13,7 +14,7 @@ use Rattle.solver.proofs.fill.fill_row.Statement.{statement}
 use Rattle.solver.proofs.fill.fill_row.Tie as tie
 
 abbrev Inv-loop : tie.InvT-loop
-Inv-loop g₀ table recorded found plan work₀ u m first from count v₀ i₀ g work v i = (i ≤ count) × (work ≡ fill table recorded found work₀ from i) × (v < m) × (0 < v → offsetIn plan v ≤ first + i) × (length g ≡ 64)
+Inv-loop g₀ table recorded found plan work₀ u m first from count v₀ i₀ g work v i = (i ≤ count) × (work ≡ fill table recorded found work₀ from i) × (v < m) × (0 < v → offsetIn plan v ≤ first + i) × (length g ≡ pairLimit)
 
 abbrev μ-loop : tie.MeasureT-loop
 μ-loop g₀ table recorded found plan work₀ u m first from count v₀ i₀ g work v i = count - i

@@ -8,7 +8,7 @@ use lib.IntN.{pos}
 use borrow.Author.Needs.{needs}
 use Rattle.foundations.specs.Machine.{Same, back}
 use Rattle.model.specs.Graph.{neighbours}
-use Rattle.model.specs.Limits.{vertexLimit, widthLimit}
+use Rattle.model.specs.Limits.{vertexLimit, widthLimit, degreeLimit}
 use Rattle.model.specs.Order.{width}
 use Rattle.model.specs.Values.{recalled}
 use Rattle.plan.specs.Plan.{childPlaceIn, childEdgeIn}
@@ -20,7 +20,7 @@ use Rattle.solver.proofs.subproblem.gain_row.Tie as tie
 
 abbrev Inv-loop : tie.InvT-loop
 Inv-loop g₀ table recorded found plan work u v i base label l j₀ g j =
-    (j ≤ l) × (l ≤ 8) × (i < 8) × (l ≡ length (neighbours found v)) × (base ≡ childPlaceIn plan u i * width found) × (label ≡ childEdgeIn plan u i)
+    (j ≤ l) × (l ≤ degreeLimit) × (i < degreeLimit) × (l ≡ length (neighbours found v)) × (base ≡ childPlaceIn plan u i * width found) × (label ≡ childEdgeIn plan u i)
     × RowFilled j i (gainAt table recorded found (recalled recorded found work) u v i) g₀ g
 
 abbrev μ-loop : tie.MeasureT-loop

@@ -1,4 +1,5 @@
 -- `mates` meets its contract. Assumes nothing.
+use Rattle.model.specs.Limits.{degreeLimit}
 use Rattle.solver.specs.Mates.{MatesTo, mates-none, mates-more}
 use Rattle.plan.specs.Plan.{neighbourIn}
 use Rattle.assignment.specs.Matching.{at, cell}
@@ -36,7 +37,7 @@ loop-again : tie.Need-loop-again Inv-loop μ-loop
 loop-again c =
     let l = c .before .before .before .before in
     let s = l .before .before .before .before .before in
-    let n : s .args .k ≤ 8 = s .pre .0 .rows in
+    let n : s .args .k ≤ degreeLimit = s .pre .0 .rows in
     (omega arith, mates-more _ _ _ _ (l .loop .i) _ _ _ (omega arith) (l .loop .inv .1) (c .before .partner .ensures) (c .name-or .ensures))
 
 returns : tie.Need-returns Inv-loop μ-loop
