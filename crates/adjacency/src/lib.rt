@@ -7,16 +7,15 @@ use model::Limits;
 use model::PlaceTable;
 use model::Row;
 ghost use Prim.Native.Nat.{min};
-ghost use lib.Dec.{eqb};
-ghost use lib.ListN.{getD, replicate};
+ghost use lib.ListN.{replicate};
 ghost use mathlib.Core.Path.{_≡_};
-ghost use mathlib.Core.Bool.{cond};
 ghost use Rattle.foundations.specs.Lists.{tab};
 ghost use Rattle.model.specs.Limits.{vertexLimit, degreeLimit, noVertex};
 ghost use Rattle.model.specs.Tree.{count};
 ghost use Rattle.model.specs.Graph.{neighbourTable, edgeLabelTable};
 ghost use Rattle.trees.specs.Accepted.{Ends};
 ghost use Rattle.adjacency.specs.Insertion.{carried, putIn};
+ghost use Rattle.adjacency.specs.NeighbourSteps.{Once, labelIn};
 
 // The lesser of what a place held and what is carried to it stays.
 fn stays(x: u8, c: u8) -> u8
@@ -76,22 +75,18 @@ pub fn neighbour_table(s: &[u8]) -> PlaceTable
     t
 }
 
-// A label, or l where w stands in the place.
-fn label_of(x: u8, w: u8, l: u8, label: u8) -> u8
-    ensures { λ r. ⌜ r ≡ cond (eqb w x) l label ⌝ }
-{
-    if w == x { l } else { label }
-}
-
-// The labels in a row's places, with l in the place of w.
+// The labels in a row's places, with l in the place of w, which has one at the most.
 fn label_in(labels: Row, names: Row, w: u8, l: u8) -> Row
-    ensures { λ r. ⌜ r ≡ tab (λ i. cond (eqb w (getD names i 0)) l (getD labels i 0)) degreeLimit ⌝ }
+    requires { ⌜ Once w names ⌝ }
+    ensures { λ r. ⌜ r ≡ tab (labelIn w l names labels) degreeLimit ⌝ }
 {
-    let mut r = [0u8; Limits::PLACES];
+    let mut r = labels;
     let mut i: usize = 0;
     while i < Limits::PLACES {
-        let x = label_of(names[i], w, l, labels[i]);
-        r[i] = x;
+        if names[i] == w {
+            r[i] = l;
+            return r;
+        }
         i += 1;
     }
     r

@@ -12,7 +12,7 @@ use borrow.Author.Tests.{lt-ltb, le-ltb, ltb-true, ltb-false, eq-eqb, ne-eqb}
 use Rattle.foundations.specs.Tests.{same, same?, less?, eqb-same, T→true}
 use Rattle.foundations.specs.Int.{int, canon}
 use Rattle.foundations.specs.Sums.{sum, pick, lsum, sum-first}
-use Rattle.foundations.specs.Members.{mem, mem-nil, mem-here, mem-there, mem-cases, mem-ne, getD-mem, Distinct, del, mem-del, del-mem, lsum-ext, mem-occ, distinct-occ, place, place-low, place-at, place-one}
+use Rattle.foundations.specs.Members.{mem, mem-nil, mem-here, mem-there, mem-cases, mem-ne, getD-mem, Distinct, del, mem-del, del-mem, lsum-ext, mem-occ, place, place-low, place-at, place-of, at-once}
 use Rattle.model.specs.Weights.{Weight, none, some, _⊑_, plusW, maxW}
 use Rattle.model.specs.Values.{greatest, best}
 use Rattle.subtrees.specs.WeightLaws.{⊑-antisym, max-either}
@@ -28,13 +28,6 @@ place-below c l t = place-low c l (mem-occ c l t)
 
 at-place : (c : ℕ) (l : List ℕ) → T (mem c l) → getD l (place c l) 0 ≡ c
 at-place c l t = place-at c l (mem-occ c l t)
-
-pub place-of : (l : List ℕ) (i : ℕ) → Distinct l → i < length l → place (getD l i 0) l ≡ i
-place-of l i d h = place-one (getD l i 0) l i (distinct-occ (getD l i 0) l d) h refl
-
--- two places with the same element are the same
-at-once : (l : List ℕ) (i j : ℕ) → Distinct l → i < length l → j < length l → getD l i 0 ≡ getD l j 0 → i ≡ j
-at-once l i j d hi hj e = sym (place-of l i d hi) ∙ ap (λ (x : ℕ). place x l) e ∙ place-of l j d hj
 
 -- s is the element before place c, or no element where c is 0
 pub left-of : (l : List ℕ) (s c : ℕ) → Distinct l → c ≤ length l → (c ≡ 0 → (j : ℕ) → j < length l → getD l j 0 ≡ s → ⊥) → ((j : ℕ) → c ≡ j + 1 → getD l j 0 ≡ s) → (j : ℕ) → j < length l → eqb (getD l j 0) s ≡ eqb (j + 1) c

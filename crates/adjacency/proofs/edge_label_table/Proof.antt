@@ -3,7 +3,7 @@ use Prim.Native.Nat.{_-_, _≤_, _<_}
 use mathlib.Core.Path.{_≡_, _∙_}
 use Rattle.model.specs.Limits.{vertexLimit}
 use Rattle.trees.specs.Accepted.{Ends}
-use Rattle.adjacency.specs.NeighbourSteps.{labelRows, labelSoFar, no-labels, labelled-rows, labels-end}
+use Rattle.adjacency.specs.NeighbourSteps.{labelRows, labelSoFar, no-labels, labelled-rows, labels-end, once-row}
 use borrow.Author.Needs.{needs}
 use native.Mathlib.Omega.{arith}
 use Rattle.adjacency.proofs.edge_label_table.Statement.{statement}
@@ -61,7 +61,10 @@ element-copy-out-label-in-2 : tie.Need-element-copy-out-label-in-2 Inv-loop μ-l
 element-copy-out-label-in-2 c = omega (arith, low-a (c .before))
 
 label-in-requires : tie.Need-label-in-requires Inv-loop μ-loop
-label-in-requires c κs = search needs
+label-in-requires c κs =
+    let e = c .before .before in
+    let s = e .before .before .before .before .before .before .before in
+    once-row (s .args .s .now) _ _ _ (s .pre .1 .1) (low-a e) (low-b e)
 
 cast-p : tie.Need-cast-p Inv-loop μ-loop
 cast-p c = search needs
@@ -91,7 +94,10 @@ element-copy-out-label-in-4 : tie.Need-element-copy-out-label-in-4 Inv-loop μ-l
 element-copy-out-label-in-4 c = omega (arith, low-b (c .before .before .before .before))
 
 label-in-requires-2 : tie.Need-label-in-requires-2 Inv-loop μ-loop
-label-in-requires-2 c κs = search needs
+label-in-requires-2 c κs =
+    let e = c .before .before .before .before .before in
+    let s = e .before .before .before .before .before .before .before in
+    once-row (s .args .s .now) _ _ _ (s .pre .1 .1) (low-b e) (low-a e)
 
 cast-q : tie.Need-cast-q Inv-loop μ-loop
 cast-q c = search needs
