@@ -29,14 +29,15 @@ fn all_in_range(work: &[i32], from: usize, count: usize) -> bool
     requires { ⌜ from + count ≤ length (now work) ⌝ }
     ensures { λ r. ⌜ r ≡ every (λ k. inRange (getD (now (work .entry)) (from + k) (pos 0))) count ⌝ }
 {
-    let mut ok = true;
     let mut k: usize = 0;
     while k < count {
         let one = in_range(work[from + k]);
-        ok = ok & one;
+        if !one {
+            return false;
+        }
         k += 1;
     }
-    ok
+    true
 }
 
 // They may stand at a forbidden one.
@@ -44,14 +45,15 @@ fn all_forbidden(work: &[i32], from: usize, count: usize) -> bool
     requires { ⌜ from + count ≤ length (now work) ⌝ }
     ensures { λ r. ⌜ r ≡ every (λ k. isForbidden (getD (now (work .entry)) (from + k) (pos 0))) count ⌝ }
 {
-    let mut ok = true;
     let mut k: usize = 0;
     while k < count {
         let one = integers::is_forbidden(work[from + k]);
-        ok = ok & one;
+        if !one {
+            return false;
+        }
         k += 1;
     }
-    ok
+    true
 }
 
 // They may stand at a pair of this weight.
