@@ -1,12 +1,12 @@
 -- What one turn of each small loop keeps. Assumes nothing.
 use mathlib.Core.Path.{_≡_, refl, sym, ap, subst, _∙_}
 use mathlib.Core.Logic.{_⊎_, ⊎-elim, _≢_}
-use mathlib.Core.List.{List}
+use mathlib.Core.List.{List, []}
 use Prim.Native.Nat.{ℕ, _+_, _-_, _≤_, _<_}
 use native.Mathlib.Omega.{arith}
 use native.Mathlib.Nat.{not-suc-le-zero}
-use lib.ListN.{length, set, length-set, replicate, getD-replicate}
-use lib.Seq.{getD-set-same, getD-set-other}
+use lib.ListN.{length, getD, set, length-set, replicate, getD-replicate}
+use lib.Seq.{set-set, set-out, getD-set-same, getD-set-other}
 use borrow.Author.Count.{below-more}
 use borrow.Author.Tests.{eq-eqb, ne-eqb, lt-ltb, le-ltb}
 use Rattle.foundations.specs.Tests.{same?, less?}
@@ -15,6 +15,16 @@ use Rattle.foundations.specs.Changed.{changed-none, changed-more}
 use Rattle.model.specs.Limits.{degreeLimit}
 use Rattle.assignment.specs.Matching.{at}
 use Rattle.assignment.specs.Loops.{far, lessOf, whoOf, openOf, OwnersOf, Nearest, Looked, First}
+
+-- ---- a place set in a row that was just set
+
+pub set-within : (l : List (List ℕ)) (o : ℕ) (q : List ℕ) (i x : ℕ) → set (set l o q) o (set (getD (set l o q) o []) i x) ≡ set l o (set q i x)
+set-within l o q i x =
+    set-set l o q (set (getD (set l o q) o []) i x)
+    ∙ ⊎-elim
+    (λ h. ap (λ (r : List ℕ). set l o (set r i x)) (getD-set-same l o q [] h))
+    (λ h. set-out l o (set (getD (set l o q) o []) i x) h ∙ sym (set-out l o (set q i x) h))
+    (less? o (length l))
 
 -- ---- the nearest column
 

@@ -218,10 +218,9 @@ fn grow(
     requires { ⌜ (p < degreeLimit) × (b < degreeLimit) × (o < degreeLimit) ⌝ }
     ensures { λ _. ⌜ Grown p b o d (now (alt .entry)) (now (row .entry)) (now (col .entry)) (now (join .entry)) (now (alt .exit)) (now (row .exit)) (now (col .exit)) (now (join .exit)) ⌝ }
 {
-    let mut n = alt[p];
-    n[p] = byte(b);
-    n[o] = FREE;
-    alt[o] = n;
+    alt[o] = alt[p];
+    alt[o][p] = byte(b);
+    alt[o][o] = FREE;
     row[o] = 1;
     col[b] = 1;
     join[o] = d;
@@ -261,9 +260,8 @@ fn explore(
         let o = place(t);
         if Limits::PLACES <= o {
             settle(y, z, &row, &col, dist, &join, k, l, d);
-            let mut n = alt[p];
-            n[p] = byte(b);
-            *m = n;
+            *m = alt[p];
+            m[p] = byte(b);
             return;
         }
         grow(&mut alt, &mut row, &mut col, &mut join, p, b, o, d);

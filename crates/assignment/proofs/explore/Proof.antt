@@ -51,14 +51,14 @@ settle-requires c κs =
     let s = t .before .before .before .before in
     room-column (s .pre) (t .before .loop .inv) (t .loop-test .taken)
 
-mul-n : tie.Need-mul-n Inv-loop μ-loop
-mul-n c =
+mul-m : tie.Need-mul-m Inv-loop μ-loop
+mul-m c =
     let t = c .before .before .before .before .before .before .before .before .before .before .before in
     let s = t .before .before .before .before in
     omega (arith, from-low (s .pre) (t .before .loop .inv) (t .loop-test .taken), c .before .before .before .before .before .before .before .before .before .before .place .ensures)
 
-array-copy-out-n : tie.Need-array-copy-out-n Inv-loop μ-loop
-array-copy-out-n c =
+array-copy-out-m : tie.Need-array-copy-out-m Inv-loop μ-loop
+array-copy-out-m c =
     let t = c .before .before .before .before .before .before .before .before .before .before .before in
     let s = t .before .before .before .before in
     omega (arith, from-low (s .pre) (t .before .loop .inv) (t .loop-test .taken), c .before .before .before .before .before .before .before .before .before .before .place .ensures)
@@ -69,8 +69,8 @@ byte-requires-2 c κs =
     let s = t .before .before .before .before in
     b-low (s .pre) (t .before .loop .inv) (t .loop-test .taken)
 
-array-write-n : tie.Need-array-write-n Inv-loop μ-loop
-array-write-n c =
+element-write-m : tie.Need-element-write-m Inv-loop μ-loop
+element-write-m c =
     let t = c .before .before .before .before .before .before .before .before .before .before .before .before .before in
     let s = t .before .before .before .before in
     omega (arith, from-low (s .pre) (t .before .loop .inv) (t .loop-test .taken), c .before .before .before .before .before .before .before .before .before .before .before .before .place .ensures)
@@ -140,11 +140,11 @@ settle-requires-2 c κs =
     let t = c .before .before .before .before .before .before in
     room-row (t .before .before .before .before .pre) (t .before .loop .inv) (t .loop-test .left)
 
-mul-m : tie.Need-mul-m Inv-loop μ-loop
-mul-m c = search needs
+mul-m-2 : tie.Need-mul-m-2 Inv-loop μ-loop
+mul-m-2 c = search needs
 
-array-copy-out-m : tie.Need-array-copy-out-m Inv-loop μ-loop
-array-copy-out-m c =
+array-copy-out-m-2 : tie.Need-array-copy-out-m-2 Inv-loop μ-loop
+array-copy-out-m-2 c =
     let t = c .before .before .before .before .before .before .before in
     a-low (t .before .before .before .before .pre) (t .before .loop .inv)
 
@@ -169,10 +169,10 @@ explore-spec =
     element-copy-out-t
     place-requires-2
     settle-requires
-    mul-n
-    array-copy-out-n
+    mul-m
+    array-copy-out-m
     byte-requires-2
-    array-write-n
+    element-write-m
     returns
     grow-requires
     mul-base
@@ -184,6 +184,6 @@ explore-spec =
     loop-less
     loop-again
     settle-requires-2
-    mul-m
-    array-copy-out-m
+    mul-m-2
+    array-copy-out-m-2
     returns-2)
