@@ -3,7 +3,7 @@ use mathlib.Core.Path.{_≡_, sym, ap, _∙_, subst}
 use mathlib.Core.Logic.{_≢_, ⊎-elim}
 use mathlib.Core.Bool.{cond}
 use mathlib.Core.List.{List, _++_}
-use Prim.Native.Nat.{ℕ, _-_, min}
+use Prim.Native.Nat.{ℕ}
 use lib.Dec.{eqb}
 use lib.ListN.{take, drop}
 use lib.IntN.{ℤ, pos}
@@ -14,20 +14,18 @@ use Rattle.model.specs.declared.AdvanceOutcome.{AdvanceOutcome}
 use Rattle.model.specs.declared.MatchAnswer.{MatchAnswer}
 use Rattle.model.specs.declared.WriteAnswer.{WriteAnswer}
 use Rattle.model.specs.Tree.{count}
-use Rattle.model.specs.Order.{subproblems}
 use Rattle.model.specs.Calls.{matchItem}
 use Rattle.model.specs.Mapping.{Heaviest, weight}
 use Rattle.model.specs.Values.{valueAt, answer}
 use Rattle.model.specs.Match.{refusalOf, weightOf, MatchCall}
-use Rattle.model.specs.Jobs.{startItem, advanceItem, finishItem, startOf, startRefusal, advanceOf, advanceWork, advanceRefusal, advanceCount, FinishCall}
+use Rattle.model.specs.Jobs.{startItem, advanceItem, finishItem, startOf, startRefusal, advanceOf, advanceWork, advanceRefusal, advanceCount, advanceSolves, StartCall, AdvanceCall, FinishCall}
 use Rattle.model.specs.Certificate.{certificateLength, weightIn, mappingIn, valueIn, checkOf}
 use Rattle.model.specs.Writing.{writeItem, writeRefusal, lengthOf, WriteCall}
-use Rattle.jobs.specs.Theorems.{start-refusal, advance-refusal, advance-count, finish-refusal}
-use Rattle.jobs.specs.Outcomes.{advance-refused}
+use Rattle.jobs.specs.Theorems.{finish-refusal}
 use Rattle.answer_numbers.specs.declared.job_numbers.JobMemory.{JobMemory}
 use Rattle.answer_numbers.specs.Memory.{recordOf, memoryAfter, startMemory, advanceMemory}
 use Rattle.answer_numbers.specs.ByItem.{where-none, where-item}
-use Rattle.call_numbers.specs.Exported.{matchWeight, Matches, Starts, advanceSolves, Advances, finishWeight, Finishes, writeLength, Writes}
+use Rattle.call_numbers.specs.Exported.{matchWeight, Matches, Starts, Advances, finishWeight, Finishes, writeLength, Writes}
 
 -- a number that is the item in both cases
 numbered : (item k : ℕ) → (item ≡ 0 → k ≡ 0) → (item ≢ 0 → k ≡ item) → k ≡ item
@@ -58,34 +56,30 @@ exported {table} {r} {f} {work} {mapping} {work′} {mapping′} {a} {refusal} c
 
 -- of a start, an advance and a finish: h is the record that the memory x stands for
 module _ (x : JobMemory) (table r f : List ℕ) (work : List ℤ) where
-  pub starts : (h : JobRecord) (o : StartOutcome) (k : ℕ) (y : JobMemory) → h ≡ recordOf x → o ≡ startOf h table r f work → k ≡ startRefusal (o .answer) → y ≡ memoryAfter k x (o .job)
+  pub starts : (h : JobRecord) (o : StartOutcome) (k : ℕ) (y : JobMemory) → h ≡ recordOf x → StartCall h table r f work o → k ≡ startRefusal (o .answer) → y ≡ memoryAfter k x (o .job)
       → Starts x table r f work y k
   unfolding startMemory
-  starts h o k y eh eo ek ey =
-      let same : o ≡ startOf (recordOf x) table r f work = eo ∙ ap (λ (j : JobRecord). startOf j table r f work) eh in
-      let is : k ≡ startItem table r f work = ek ∙ ap (λ (a : StartOutcome). startRefusal (a .answer)) same ∙ start-refusal (recordOf x) table r f work in
+  starts h o k y eh call ek ey =
+      let same : o ≡ startOf (recordOf x) table r f work = call .outcome ∙ ap (λ (j : JobRecord). startOf j table r f work) eh in
+      let is : k ≡ startItem table r f work = ek ∙ call .number in
       record {
         number = is;
         leaves = ey ∙ ap (λ (i : ℕ). memoryAfter i x (o .job)) is ∙ ap (λ (a : StartOutcome). memoryAfter (startItem table r f work) x (a .job)) same;
       }
 
   module _ (b : ℕ) where
-    solves : (j : JobRecord) → advanceCount (advanceOf j table r f b work .answer) ≡ advanceSolves j table r f b work
-    unfolding advanceSolves advanceCount
-    solves j = by-item (advanceItem j table r f work) (min b (subproblems r f - j .position)) 0 (advanceCount (advanceOf j table r f b work .answer)) (advance-count j table r f work b) (λ n. ap (λ o. advanceCount (o .answer)) (advance-refused j table r f b work n))
-
-    pub advances : (h : JobRecord) (o : AdvanceOutcome) (k c : ℕ) (y : JobMemory) (work′ : List ℤ) → h ≡ recordOf x → o ≡ advanceOf h table r f b work → work′ ≡ advanceWork h table r f b work
+    pub advances : (h : JobRecord) (o : AdvanceOutcome) (k c : ℕ) (y : JobMemory) (work′ : List ℤ) → h ≡ recordOf x → AdvanceCall h table r f b work work′ o
         → k ≡ advanceRefusal (o .answer) → c ≡ advanceCount (o .answer) → y ≡ memoryAfter k x (o .job)
         → Advances x table r f b work y work′ k c
     unfolding advanceMemory
-    advances h o k c y work′ eh eo ew ek ec ey =
-        let same : o ≡ advanceOf (recordOf x) table r f b work = eo ∙ ap (λ (j : JobRecord). advanceOf j table r f b work) eh in
-        let is : k ≡ advanceItem (recordOf x) table r f work = ek ∙ ap (λ (a : AdvanceOutcome). advanceRefusal (a .answer)) same ∙ advance-refusal (recordOf x) table r f work b in
+    advances h o k c y work′ eh call ek ec ey =
+        let same : o ≡ advanceOf (recordOf x) table r f b work = call .outcome ∙ ap (λ (j : JobRecord). advanceOf j table r f b work) eh in
+        let is : k ≡ advanceItem (recordOf x) table r f work = ek ∙ call .number ∙ ap (λ (j : JobRecord). advanceItem j table r f work) eh in
         record {
           number = is;
-          counts = ec ∙ ap (λ (a : AdvanceOutcome). advanceCount (a .answer)) same ∙ solves (recordOf x);
+          counts = ec ∙ call .counts ∙ ap (λ (j : JobRecord). advanceSolves j table r f b work) eh;
           leaves = ey ∙ ap (λ (i : ℕ). memoryAfter i x (o .job)) is ∙ ap (λ (a : AdvanceOutcome). memoryAfter (advanceItem (recordOf x) table r f work) x (a .job)) same;
-          fills = ew ∙ ap (λ (j : JobRecord). advanceWork j table r f b work) eh;
+          fills = call .fills ∙ ap (λ (j : JobRecord). advanceWork j table r f b work) eh;
         }
 
 finishes-record : {j : JobRecord} {table r f : List ℕ} {work : List ℤ} {mapping mapping′ : List ℕ} {a : MatchAnswer} {refusal : ℕ} {w : ℤ}

@@ -5,7 +5,7 @@ use mathlib.Core.Path.{_≡_}
 use mathlib.Core.Logic.{_≢_}
 use mathlib.Core.Bool.{cond}
 use mathlib.Core.List.{List, _++_}
-use Prim.Native.Nat.{ℕ, _<_, _-_, min}
+use Prim.Native.Nat.{ℕ, _<_}
 use lib.Dec.{eqb}
 use lib.ListN.{take, drop}
 use lib.IntN.{ℤ, pos}
@@ -16,7 +16,7 @@ use Rattle.model.specs.Calls.{matchItem}
 use Rattle.model.specs.Mapping.{IsMapping, Heaviest, weight}
 use Rattle.model.specs.Values.{values, valueAt, answer}
 use Rattle.model.specs.Match.{MatchLeaves}
-use Rattle.model.specs.Jobs.{startItem, advanceItem, finishItem, advanceWork}
+use Rattle.model.specs.Jobs.{startItem, advanceItem, finishItem, advanceWork, advanceSolves}
 use Rattle.model.specs.Certificate.{certificateLength, weightIn, mappingIn, valueIn, checkOf}
 use Rattle.model.specs.Writing.{writeItem}
 use Rattle.answer_numbers.specs.declared.job_numbers.JobMemory.{JobMemory}
@@ -39,9 +39,6 @@ pub record Starts (job : JobMemory) (table recorded found : List ℕ) (work : Li
   pub leaves : job′ ≡ startMemory job table recorded found work
 
 -- ---- advance: the smaller of the budget and what is left
-
-unfoldable pub advanceSolves : JobRecord → List ℕ → List ℕ → List ℕ → ℕ → List ℤ → ℕ
-advanceSolves j table recorded found budget work = cond (eqb (advanceItem j table recorded found work) 0) (min budget (subproblems recorded found - j .position)) 0
 
 pub record Advances (job : JobMemory) (table recorded found : List ℕ) (budget : ℕ) (work : List ℤ) (job′ : JobMemory) (work′ : List ℤ) (refusal solved : ℕ) : Type 0 where
   pub number : refusal ≡ advanceItem (recordOf job) table recorded found work

@@ -11,13 +11,13 @@ use Rattle.model.specs.Order.{subproblems}
 use Rattle.model.specs.Calls.{matchItem}
 use Rattle.model.specs.Mapping.{Heaviest, weight}
 use Rattle.model.specs.Values.{answer}
-use Rattle.model.specs.Jobs.{advanceItem, finishItem}
+use Rattle.model.specs.Jobs.{advanceItem, advanceSolves, sliceCount, finishItem}
 use Rattle.model.specs.Certificate.{certificateLength}
 use Rattle.model.specs.Writing.{writeItem}
 use Rattle.answer_numbers.specs.declared.job_numbers.JobMemory.{JobMemory}
 use Rattle.answer_numbers.specs.Memory.{recordOf}
 use Rattle.answer_numbers.specs.ByItem.{where-none, where-item}
-use Rattle.call_numbers.specs.Exported.{matchWeight, Matches, advanceSolves, Advances, finishWeight, Finishes, writeLength, Writes}
+use Rattle.call_numbers.specs.Exported.{matchWeight, Matches, Advances, finishWeight, Finishes, writeLength, Writes}
 
 module _ (table r f : List ℕ) (work : List ℤ) (mapping : List ℕ) (work′ : List ℤ) (mapping′ : List ℕ) (refusal : ℕ) (w : ℤ) (e : Matches table r f work mapping work′ mapping′ refusal w) where
   pub refused-weighs : refusal ≢ 0 → w ≡ pos 0
@@ -31,7 +31,7 @@ module _ (table r f : List ℕ) (work : List ℤ) (mapping : List ℕ) (work′ 
 
 module _ (x : JobMemory) (table r f : List ℕ) (b : ℕ) (work : List ℤ) (x′ : JobMemory) (work′ : List ℤ) (refusal c : ℕ) (e : Advances x table r f b work x′ work′ refusal c) where
   pub advance-solves : refusal ≡ 0 → c ≡ min b (subproblems r f - x .position)
-  unfolding advanceSolves recordOf
+  unfolding advanceSolves sliceCount recordOf
   advance-solves z = e .counts ∙ where-none (advanceItem (recordOf x) table r f work) (min b (subproblems r f - x .position)) 0 (sym (e .number) ∙ z)
 
 module _ (j : JobRecord) (table r f : List ℕ) (work : List ℤ) (mapping mapping′ : List ℕ) (refusal : ℕ) (w : ℤ) (e : Finishes j table r f work mapping mapping′ refusal w) where

@@ -142,7 +142,7 @@ pub(crate) fn shape_ok(recorded: &[u8], found: &[u8], plan: &Plan, z: &[u8], at:
 {
     let n = vertex_count(recorded);
     let m = vertex_count(found);
-    let mut places = [[0u32; 2]; Limits::BOUNDS];
+    let mut places = [[0u32; 2]; Limits::PREFIXES];
     places_of(&mut places, recorded, found, plan);
     let long = begin(&places, n);
     if z.len() != long {

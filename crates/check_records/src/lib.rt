@@ -26,7 +26,7 @@ fn records_item(table: &[u8], recorded: &[u8], found: &[u8], plan: &Plan, certif
     requires { ⌜ length (now certificate) ≡ certificateLength (now recorded) (now found) ⌝ }
     ensures { λ r. ⌜ r ≡ recordsItem (now (table .entry)) (now (recorded .entry)) (now (found .entry)) (now (certificate .entry)) ⌝ }
 {
-    let mut places = [[0u32; 2]; Limits::BOUNDS];
+    let mut places = [[0u32; 2]; Limits::PREFIXES];
     places_of(&mut places, recorded, found, plan);
     let ok = records_ok(table, recorded, found, plan, &places, certificate);
     if !ok {

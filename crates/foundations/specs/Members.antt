@@ -331,7 +331,7 @@ place-one x (y ∷ l) (suc i) h b e = step (ℕ-discrete x y) (place-one x l i)
     step (yes q) r = let g : 1 + occ x l ≤ 1 = rw (eq-eqb x y q) at h in let k : 1 ≤ occ x l = here l i (omega arith) e in absurd (omega arith)
     step (no q) r = let g : 0 + occ x l ≤ 1 = rw (ne-eqb x y q) at h in rw (ne-eqb x y q) (ap suc (r (omega arith) (omega arith) e))
 
-pub place-of : (l : List ℕ) (i : ℕ) → Distinct l → i < length l → place (getD l i 0) l ≡ i
+place-of : (l : List ℕ) (i : ℕ) → Distinct l → i < length l → place (getD l i 0) l ≡ i
 place-of l i d h = place-one (getD l i 0) l i (distinct-occ (getD l i 0) l d) h refl
 
 -- two places with the same element are the same

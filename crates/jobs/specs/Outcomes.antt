@@ -14,7 +14,7 @@ use Rattle.model.specs.declared.AdvanceAnswer.the-variants as advance
 use Rattle.model.specs.declared.AdvanceOutcome.{AdvanceOutcome}
 use Rattle.model.specs.Order.{subproblems}
 use Rattle.model.specs.Values.{fill}
-use Rattle.model.specs.Jobs.{startItem, advanceItem, started, startOf, slice, advanced, advanceOf, advanceWork}
+use Rattle.model.specs.Jobs.{startItem, advanceItem, started, startOf, sliceCount, advanced, advanceOf, advanceWork}
 
 -- ---- a call that is not refused
 
@@ -22,11 +22,11 @@ pub start-accepted : (j : JobRecord) (table r f : List ℕ) (work : List ℤ) �
 unfolding startOf
 start-accepted j table r f work e = rw e
 
-pub advance-accepted : (j : JobRecord) (table r f : List ℕ) (b : ℕ) (work : List ℤ) → advanceItem j table r f work ≡ 0 → advanceOf j table r f b work ≡ record { job = advanced j (slice j r f b); answer = Advanced (slice j r f b) }
+pub advance-accepted : (j : JobRecord) (table r f : List ℕ) (b : ℕ) (work : List ℤ) → advanceItem j table r f work ≡ 0 → advanceOf j table r f b work ≡ record { job = advanced j (sliceCount j r f b); answer = Advanced (sliceCount j r f b) }
 unfolding advanceOf
 advance-accepted j table r f b work e = rw e
 
-pub advance-fills : (j : JobRecord) (table r f : List ℕ) (b : ℕ) (work : List ℤ) → advanceItem j table r f work ≡ 0 → advanceWork j table r f b work ≡ fill table r f work (j .position) (slice j r f b)
+pub advance-fills : (j : JobRecord) (table r f : List ℕ) (b : ℕ) (work : List ℤ) → advanceItem j table r f work ≡ 0 → advanceWork j table r f b work ≡ fill table r f work (j .position) (sliceCount j r f b)
 unfolding advanceWork
 advance-fills j table r f b work e = rw e
 
@@ -58,7 +58,7 @@ advance-refused-as j table r f work b k e n =
     (ap (λ (i : ℕ). record { job = j; answer = advance.Refused i }) e ∙ sym (advance-refused j table r f b work m), sym (advance-unfilled j table r f b work m))
 
 pub advance-accepted-as : (j : JobRecord) (table r f : List ℕ) (work : List ℤ) (b : ℕ) (j′ : JobRecord) (c : ℕ) (work′ : List ℤ) → j′ ≡ advanced j c → c ≡ min b (subproblems r f - j .position) → advanceItem j table r f work ≡ 0 → work′ ≡ fill table r f work (j .position) c → _≡_ {A = AdvanceOutcome} (record { job = j′; answer = Advanced c }) (advanceOf j table r f b work) × (work′ ≡ advanceWork j table r f b work)
-unfolding slice
+unfolding sliceCount
 advance-accepted-as j table r f work b j′ c work′ e s z w = (
   ap (λ (i : JobRecord). record { job = i; answer = Advanced c }) e ∙ ap (λ (n : ℕ). record { job = advanced j n; answer = Advanced n }) s ∙ sym (advance-accepted j table r f b work z),
   w ∙ ap (λ (n : ℕ). fill table r f work (j .position) n) s ∙ sym (advance-fills j table r f b work z),

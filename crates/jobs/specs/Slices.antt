@@ -17,7 +17,7 @@ use Rattle.model.specs.Tree.{count}
 use Rattle.model.specs.Order.{width, subproblems}
 use Rattle.model.specs.Calls.{inputItem}
 use Rattle.model.specs.Values.{values, answer}
-use Rattle.model.specs.Jobs.{totalLimit, recordOk, sameTrees, isLeft, workOk, advanceItem, finishItem, startOf, slice, advanced, advanceOf, advanceWork}
+use Rattle.model.specs.Jobs.{totalLimit, recordOk, sameTrees, isLeft, workOk, advanceItem, finishItem, startOf, sliceCount, advanced, advanceOf, advanceWork}
 use Rattle.formats.specs.Inputs.{Accepted, input-accepted}
 use Rattle.subtrees.specs.Filling.{values-long}
 use Rattle.subtrees.specs.Theorems.{fill-prefix}
@@ -114,8 +114,8 @@ module _ (table r f : List ℕ) (passes : inputItem table r f ≡ 0) (total₀ :
     pub running-item : advanceItem j table r f work ≡ 0
     running-item = advance-none table r f work j early-ok work-ok
 
-    slice-is : (b : ℕ) → slice j r f b ≡ min b (N - p)
-    unfolding slice
+    slice-is : (b : ℕ) → sliceCount j r f b ≡ min b (N - p)
+    unfolding sliceCount
     slice-is b = rw (R .here)
 
     -- it counts the smaller of its budget and what is left

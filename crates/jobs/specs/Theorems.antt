@@ -9,8 +9,11 @@ use native.Mathlib.Omega.{arith}
 use native.Mathlib.Nat.{zero-add}
 use lib.ListN.{length, take, drop}
 use lib.IntN.{ℤ}
+use borrow.Author.Tests.{ne-eqb}
 use Rattle.foundations.specs.Tests.{same?}
 use Rattle.model.specs.declared.JobRecord.{JobRecord}
+use Rattle.model.specs.declared.StartOutcome.{StartOutcome}
+use Rattle.model.specs.declared.AdvanceOutcome.{AdvanceOutcome}
 use Rattle.model.specs.declared.AdvanceAnswer.the-variants.{Advanced}
 use Rattle.model.specs.declared.MatchAnswer.{MatchAnswer}
 use Rattle.model.specs.declared.MatchAnswer.the-variants.{Found}
@@ -20,7 +23,7 @@ use Rattle.model.specs.Calls.{inputItem}
 use Rattle.model.specs.Mapping.{IsMapping, Heaviest, weight}
 use Rattle.model.specs.Values.{values, answer}
 use Rattle.model.specs.Match.{refusalOf, weightOf}
-use Rattle.model.specs.Jobs.{startItem, advanceItem, finishItem, startOf, started, slice, advanceOf, advanceWork, startRefusal, advanceRefusal, advanceCount, FinishCall}
+use Rattle.model.specs.Jobs.{startItem, advanceItem, finishItem, startOf, started, advanceOf, advanceWork, startRefusal, advanceRefusal, advanceCount, advanceSolves, StartCall, AdvanceCall, FinishCall}
 use Rattle.job_items.specs.Items.{start-passed}
 use Rattle.jobs.specs.Outcomes.{start-accepted, advance-accepted, start-refused, advance-refused, advance-unfilled}
 use Rattle.jobs.specs.Slices.{Sliced, begins, goes, jobAfter, workAfter, together, sliced-same, Running, running-item, running-counts, running-fills, running-step, running-lent, running-finish, running-values, behind, rest-same}
@@ -52,10 +55,25 @@ module _ (j : JobRecord) (table r f : List ℕ) (work : List ℤ) where
     pub advance-keeps : advanceItem j table r f work ≢ 0 → (advanceOf j table r f b work .job ≡ j) × (advanceWork j table r f b work ≡ work)
     advance-keeps n = (ap (λ o. o .job) (advance-refused j table r f b work n), advance-unfilled j table r f b work n)
 
-    -- an accepted one counts the smaller of the budget and what is left
-    pub advance-count : advanceItem j table r f work ≡ 0 → advanceCount (advanceOf j table r f b work .answer) ≡ min b (subproblems r f - j .position)
-    unfolding advanceCount slice
-    advance-count e = ap (λ o. advanceCount (o .answer)) (advance-accepted j table r f b work e)
+    -- an accepted one counts the smaller of the budget and what is left, a refused one nothing
+    pub advance-count : advanceCount (advanceOf j table r f b work .answer) ≡ advanceSolves j table r f b work
+    unfolding advanceCount advanceSolves
+    advance-count = ⊎-elim
+        (λ e. rw (advance-accepted j table r f b work e, e))
+        (λ n. rw (advance-refused j table r f b work n, ne-eqb (advanceItem j table r f work) 0 n))
+        (same? (advanceItem j table r f work) 0)
+
+-- what the calls promise, from the outcome
+pub start-call : {j : JobRecord} {table r f : List ℕ} {work : List ℤ} {o : StartOutcome} → o ≡ startOf j table r f work → StartCall j table r f work o
+start-call {j} {table} {r} {f} {work} e = record { outcome = e; number = ap (λ (x : StartOutcome). startRefusal (x .answer)) e ∙ start-refusal j table r f work }
+
+pub advance-call : {j : JobRecord} {table r f : List ℕ} {b : ℕ} {work work′ : List ℤ} {o : AdvanceOutcome} → (o ≡ advanceOf j table r f b work) × (work′ ≡ advanceWork j table r f b work) → AdvanceCall j table r f b work work′ o
+advance-call {j} {table} {r} {f} {b} {work} e = record {
+  outcome = e .0;
+  number = ap (λ (x : AdvanceOutcome). advanceRefusal (x .answer)) (e .0) ∙ advance-refusal j table r f work b;
+  counts = ap (λ (x : AdvanceOutcome). advanceCount (x .answer)) (e .0) ∙ advance-count j table r f work b;
+  fills = e .1;
+}
 
 -- finish: the answer is a refusal exactly if an item applies, with the first, and then the mapping is as it was
 module _ (j : JobRecord) (table r f : List ℕ) (work : List ℤ) (mapping mapping′ : List ℕ) (a : MatchAnswer) (call : FinishCall j table r f work mapping mapping′ a) where

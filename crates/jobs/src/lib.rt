@@ -24,7 +24,7 @@ use plan::Plan;
 use planning::make;
 use solver::fill::fill;
 ghost use mathlib.Core.Path.{_≡_};
-ghost use Rattle.model.specs.Jobs.{startOf, advanceOf, advanceWork, finishItem, FinishCall};
+ghost use Rattle.model.specs.Jobs.{StartCall, AdvanceCall, advanceOf, advanceWork, finishItem, FinishCall};
 ghost use Rattle.plan.specs.Plan.{Ready};
 ghost use Rattle.job_items.specs.Items.{earlyItem};
 
@@ -37,7 +37,7 @@ pub fn start_core(
     found: &[u8],
     work: &[i32],
 ) -> StartOutcome
-    ensures { λ r. ⌜ r ≡ startOf job (now (table .entry)) (now (recorded .entry)) (now (found .entry)) (now (work .entry)) ⌝ }
+    ensures { λ r. ⌜ StartCall job (now (table .entry)) (now (recorded .entry)) (now (found .entry)) (now (work .entry)) r ⌝ }
 {
     let item = start_item(table, recorded, found, work);
     if item != 0 {
@@ -101,8 +101,7 @@ pub fn advance_core(
     budget: u32,
     work: &mut [i32],
 ) -> AdvanceOutcome
-    ensures { λ r. ⌜ (r ≡ advanceOf job (now (table .entry)) (now (recorded .entry)) (now (found .entry)) budget (now (work .entry)))
-        × (now (work .exit) ≡ advanceWork job (now (table .entry)) (now (recorded .entry)) (now (found .entry)) budget (now (work .entry))) ⌝ }
+    ensures { λ r. ⌜ AdvanceCall job (now (table .entry)) (now (recorded .entry)) (now (found .entry)) budget (now (work .entry)) (now (work .exit)) r ⌝ }
 {
     let item = early_item(job, table, recorded, found, work);
     if item != 0 {

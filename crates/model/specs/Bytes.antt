@@ -57,7 +57,7 @@ int32 b0 b1 b2 b3 = signed32 (word b0 b1 b2 b3)
 abbrev pub int32At : List ℕ → ℕ → ℤ
 int32At s i = int32 (byteAt s i) (byteAt s (i + 1)) (byteAt s (i + 2)) (byteAt s (i + 3))
 
--- the bytes with the number n, or the integer z, at place i
+-- the bytes with the number n, below 2^32, or the integer z, at place i
 unfoldable pub putWord : List ℕ → ℕ → ℕ → List ℕ
 putWord s i n = set (set (set (set s i (n % 256)) (i + 1) ((n / 256) % 256)) (i + 2) ((n / 65536) % 256)) (i + 3) (n / 16777216)
 

@@ -41,7 +41,7 @@ edgeOf s v w = edgeBefore s (count s) v w (edges s)
 unfoldable pub edgeLabel : List ℕ → ℕ → ℕ → ℕ
 edgeLabel s v w = edgeLabelAt s (count s) (edgeOf s v w)
 
--- ---- neighbours are kept as eight places for each of 64 vertices
+-- ---- neighbours are kept as eight places for each of 64 vertices, of trees that are not refused
 
 -- a list's first eight, as many as there are places, then 255
 abbrev pub inPlaces : List ℕ → List ℕ

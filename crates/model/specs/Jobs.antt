@@ -104,8 +104,8 @@ startOf j table recorded found work =
 
 -- ---- advance: solves the smaller of the budget (the paper's allowance) and what is left, and adds it to position and total
 
-unfoldable pub slice : JobRecord → List ℕ → List ℕ → ℕ → ℕ
-slice j recorded found budget = min budget (subproblems recorded found - j .position)
+unfoldable pub sliceCount : JobRecord → List ℕ → List ℕ → ℕ → ℕ
+sliceCount j recorded found budget = min budget (subproblems recorded found - j .position)
 
 unfoldable pub advanced : JobRecord → ℕ → JobRecord
 advanced j c = record { idle = j .idle; n = j .n; m = j .m; position = j .position + c; total = min (j .total + c) totalLimit }
@@ -113,18 +113,17 @@ advanced j c = record { idle = j .idle; n = j .n; m = j .m; position = j .positi
 unfoldable pub advanceOf : JobRecord → List ℕ → List ℕ → List ℕ → ℕ → List ℤ → AdvanceOutcome
 advanceOf j table recorded found budget work =
     cond (eqb (advanceItem j table recorded found work) 0)
-    (record { job = advanced j (slice j recorded found budget); answer = Advanced (slice j recorded found budget) })
+    (record { job = advanced j (sliceCount j recorded found budget); answer = Advanced (sliceCount j recorded found budget) })
     (record { job = j; answer = advance.Refused (advanceItem j table recorded found work) })
 
 -- the work numbers after it: from everything as lent, those from the position on that it counts, each from the numbers before it
 unfoldable pub advanceWork : JobRecord → List ℕ → List ℕ → List ℕ → ℕ → List ℤ → List ℤ
 advanceWork j table recorded found budget work =
     cond (eqb (advanceItem j table recorded found work) 0)
-    (fill table recorded found work (j .position) (slice j recorded found budget))
+    (fill table recorded found work (j .position) (sliceCount j recorded found budget))
     work
 
--- the paper's number for each answer, 0 where the call is not refused; and the count, 0 where it is. What `startOf` and `advanceOf` answer in
--- these numbers: `start-refusal`, `advance-refusal`, and of an advance that is not refused `advance-count` (crates/jobs)
+-- the paper's number for each answer, 0 where the call is not refused; and the count, 0 where it is
 unfoldable pub startRefusal : StartAnswer → ℕ
 startRefusal Started = 0
 startRefusal (start.Refused k) = k
@@ -136,6 +135,20 @@ advanceRefusal (advance.Refused k) = k
 unfoldable pub advanceCount : AdvanceAnswer → ℕ
 advanceCount (Advanced c) = c
 advanceCount (advance.Refused k) = 0
+
+unfoldable pub advanceSolves : JobRecord → List ℕ → List ℕ → List ℕ → ℕ → List ℤ → ℕ
+advanceSolves j table recorded found budget work = cond (eqb (advanceItem j table recorded found work) 0) (sliceCount j recorded found budget) 0
+
+-- the calls: the record after the call and the answer; the answer in the paper's numbers; the work numbers after an advance
+pub record StartCall (j : JobRecord) (table recorded found : List ℕ) (work : List ℤ) (o : StartOutcome) : Type 0 where
+  pub outcome : o ≡ startOf j table recorded found work
+  pub number : startRefusal (o .answer) ≡ startItem table recorded found work
+
+pub record AdvanceCall (j : JobRecord) (table recorded found : List ℕ) (budget : ℕ) (work work′ : List ℤ) (o : AdvanceOutcome) : Type 0 where
+  pub outcome : o ≡ advanceOf j table recorded found budget work
+  pub number : advanceRefusal (o .answer) ≡ advanceItem j table recorded found work
+  pub counts : advanceCount (o .answer) ≡ advanceSolves j table recorded found budget work
+  pub fills : work′ ≡ advanceWork j table recorded found budget work
 
 -- ---- finish: a mapping in the first n bytes and the rest as it was, and its exact weight; over undisturbed memory, that is where the work numbers
 -- are the values, a heaviest one, which weighs the answer. Which mapping is the program's choice.

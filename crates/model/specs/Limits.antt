@@ -27,7 +27,7 @@ vertexLimit = 64
 abbrev pub degreeLimit : ℕ
 degreeLimit = 8
 
--- what stands where there is no vertex: in a free place, and for a vertex without partner
+-- what stands where there is no vertex: for a vertex without partner, as the paper has it, and in a free place
 abbrev pub noVertex : ℕ
 noVertex = 255
 
@@ -41,7 +41,11 @@ partLimit = 2 * vertexLimit - 1
 abbrev pub ceiling : ℕ
 ceiling = partLimit * weightLimit
 
--- the pairs of a child of one vertex with a neighbour of another
+-- the prefix sums over a tree's vertices, 65: of none, of the first, .. of all
+abbrev pub prefixLimit : ℕ
+prefixLimit = vertexLimit + 1
+
+-- the pairs of a child of one vertex with a neighbour of another, 64
 abbrev pub pairLimit : ℕ
 pairLimit = degreeLimit * degreeLimit
 
@@ -57,8 +61,8 @@ subproblemLimit = vertexLimit * widthLimit
 abbrev pub dualLimit : ℕ
 dualLimit = ceiling + weightLimit
 
--- the most that the squares of a tree's degrees add up to, 616 (theorem `squares-most`). The degrees of n vertices are 1 each and n - 2 more in all; as
--- many vertices as can have the greatest degree, one has what is left, and the others have 1: eight of degree 8, one of 7 and 55 of 1
+-- the most that the squares of a tree's degrees add up to, 616 (theorem `squares-most`). The degrees of n vertices, two or more, are 1 each and n - 2 more in
+-- all; as many vertices as can have the greatest degree, one has what is left, and the others have 1: eight of degree 8, one of 7 and 55 of 1
 abbrev pub hubLimit : ℕ
 hubLimit = (vertexLimit - 2) / (degreeLimit - 1)
 

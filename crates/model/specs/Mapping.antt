@@ -34,13 +34,13 @@ Mapped recorded p u = (u < count recorded) × T (mapped p u)
 abbrev pub Taken : List ℕ → List ℕ → ℕ → Type 0
 Taken recorded p v = (u : ℕ) × Mapped recorded p u × (partner p u ≡ v)
 
--- a path from x along edges of the tree s that never leaves the set S
-pub data Path (s : List ℕ) (S : ℕ → Type 0) (x : ℕ) : ℕ → Type 0 where
-  stay : S x → Path s S x x
-  move : {y z : ℕ} → Path s S x y → joined s y z ≡ true → S z → Path s S x z
+-- a walk from x along edges of the tree s that never leaves the set S
+pub data WalkIn (s : List ℕ) (S : ℕ → Type 0) (x : ℕ) : ℕ → Type 0 where
+  stay : S x → WalkIn s S x x
+  move : {y z : ℕ} → WalkIn s S x y → joined s y z ≡ true → S z → WalkIn s S x z
 
 abbrev pub Connected : List ℕ → (ℕ → Type 0) → Type 0
-Connected s S = (x y : ℕ) → S x → S y → Path s S x y
+Connected s S = (x y : ℕ) → S x → S y → WalkIn s S x y
 
 -- "pairs some recorded devices, or none, with as many different found ones. Both sets are connected; two mapped devices are joined
 -- exactly if their partners are; no device pair or line pair is forbidden."

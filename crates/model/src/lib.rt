@@ -3,9 +3,9 @@
 ghost use mathlib.Core.Path.{_≡_};
 ghost use lib.IntN.{pos};
 ghost use Rattle.model.specs.Jobs.{freshRecord, totalLimit};
-ghost use Rattle.model.specs.Limits.{weightLimit, forbidden, ceiling, vertexLabelLimit, edgeLabelLimit, vertexLimit, degreeLimit, noVertex, pairLimit, subproblemLimit};
+ghost use Rattle.model.specs.Limits.{weightLimit, forbidden, ceiling, vertexLabelLimit, edgeLabelLimit, vertexLimit, degreeLimit, noVertex, prefixLimit, pairLimit, subproblemLimit};
 
-// The numbers that the paper fixes. The definitions have the same in specs/Limits.antt (`weights` and `sizes` below).
+// The numbers that the paper fixes, and what follows from them. The definitions have the same in specs/Limits.antt (`weights` and `sizes` below).
 pub struct Limits {}
 
 impl Limits {
@@ -27,9 +27,9 @@ impl Limits {
     pub const ROWS: usize = Limits::VERTICES as usize;
 
     pub const PLACES: usize = Limits::DEGREE as usize;
-    // A number for each vertex and one after the last, as where each one's share begins and where the last one's ends.
-    pub const BOUNDS: usize = Limits::ROWS + 1;
-    // The pairs of a child with a neighbour of two vertices.
+    // Prefix sums over the vertices: of the first i, from none to all of them.
+    pub const PREFIXES: usize = Limits::ROWS + 1;
+    // The pairs of a child of one vertex with a neighbour of another.
     pub const PAIRS: usize = Limits::PLACES * Limits::PLACES;
     // The most subproblems, n(3m - 2): work numbers that are enough for any two trees.
     pub const SUBPROBLEMS: usize = Limits::ROWS * (3 * Limits::ROWS - 2);
@@ -43,10 +43,10 @@ pub type Row = [u8; Limits::PLACES];
 // Such a row for each vertex of a tree.
 pub type PlaceTable = [Row; Limits::ROWS];
 
-// A byte for each vertex of a tree, as in an order of the vertices.
+// A byte for each vertex of a tree, as in an order of the vertices. Of n vertices the first n bytes count.
 pub type VertexTable = [u8; Limits::ROWS];
 
-// The partner of each recorded vertex, or NONE.
+// The partner of each recorded vertex, or NONE, in the first n bytes; the rest does not count.
 pub type Mapping = [u8; Limits::ROWS];
 
 // A number for each place, as the duals of a vertex's children or neighbours.
@@ -107,8 +107,8 @@ pub struct AdvanceOutcome {
     pub answer: AdvanceAnswer,
 }
 
-// The answer of a match, and of a finish: the weight of the mapping, which is below 0 only over altered work numbers, or the number of the item that
-// refused the call.
+// The answer of a match, and of a finish: the weight of the mapping, which is below 0 only where something lent to the job was altered, or the number
+// of the item that refused the call.
 pub enum MatchAnswer {
     Found(i32),
     Refused(u8),
@@ -134,6 +134,9 @@ fn sizes()
     ensures { λ _. do ⌜ (← ⟦Limits::VERTICES⟧ .exit) ≡ vertexLimit ⌝ }
     ensures { λ _. do ⌜ (← ⟦Limits::DEGREE⟧ .exit) ≡ degreeLimit ⌝ }
     ensures { λ _. do ⌜ (← ⟦Limits::NONE⟧ .exit) ≡ noVertex ⌝ }
+    ensures { λ _. do ⌜ (← ⟦Limits::ROWS⟧ .exit) ≡ vertexLimit ⌝ }
+    ensures { λ _. do ⌜ (← ⟦Limits::PLACES⟧ .exit) ≡ degreeLimit ⌝ }
+    ensures { λ _. do ⌜ (← ⟦Limits::PREFIXES⟧ .exit) ≡ prefixLimit ⌝ }
     ensures { λ _. do ⌜ (← ⟦Limits::PAIRS⟧ .exit) ≡ pairLimit ⌝ }
     ensures { λ _. do ⌜ (← ⟦Limits::SUBPROBLEMS⟧ .exit) ≡ subproblemLimit ⌝ }
 {}

@@ -15,7 +15,7 @@ use borrow.Author.Tests.{eq-eqb, ne-eqb, lt-ltb, le-ltb}
 use Rattle.foundations.specs.Tests.{same?, less?}
 use Rattle.foundations.specs.Lists.{below-ext, cat, cat-filter, gather, gather-places, getD-tab}
 use Rattle.foundations.specs.Members.{mem, getD-mem, mem-occ, place, place-low, place-at, place-one, distinct-occ, mem-ne}
-use Rattle.model.specs.Limits.{noVertex, vertexLimit, widthLimit, degreeLimit}
+use Rattle.model.specs.Limits.{noVertex, vertexLimit, widthLimit, degreeLimit, prefixLimit}
 use Rattle.model.specs.Tree.{count}
 use Rattle.model.specs.Graph.{joined, edges, neighbours, neighbourTable, edgeLabelTable, edgeLabel, inPlaces}
 use Rattle.model.specs.Order.{children, parent, position, offset, slot, width}
@@ -64,7 +64,7 @@ module _ (s : List ℕ) (K L : ℕ) (p : Passed s K L) where
 
 -- up to vertex n
 pub record Starts (f : List ℕ) (n : ℕ) (r : List ℕ) : Type 0 where
-  pub long : length r ≡ vertexLimit + 1
+  pub long : length r ≡ prefixLimit
   pub offsets : (v : ℕ) → v ≤ n → getD r v 0 ≡ offset f v
   pub small : (v : ℕ) → getD r v 0 ≤ widthLimit
 
@@ -73,14 +73,14 @@ zeros zero v = refl
 zeros (suc n) zero = refl
 zeros (suc n) (suc v) = zeros n v
 
-pub starts-none : (f r : List ℕ) → length r ≡ vertexLimit + 1 → ((v : ℕ) → getD r v 0 ≡ 0) → Starts f 0 r
+pub starts-none : (f r : List ℕ) → length r ≡ prefixLimit → ((v : ℕ) → getD r v 0 ≡ 0) → Starts f 0 r
 unfolding offset
 starts-none f r e z = record { long = e; offsets = λ v h. let q : v ≡ 0 = omega arith in rw q (z 0); small = λ v. rw (z v) (omega arith) }
 
 pub starts-more : (f : List ℕ) (K L : ℕ) → Passed f K L → (v : ℕ) (r : List ℕ) (k x : ℕ) → v < count f → Starts f v r → TakenPlaces (getD (neighbourTable f) v []) k → x ≡ getD r v 0 + 1 + k → Starts f (v + 1) (set r (v + 1) x)
 unfolding offset
 starts-more f K L p v r k x l S t e =
-    let n : length r ≡ vertexLimit + 1 = S .long in
+    let n : length r ≡ prefixLimit = S .long in
     let few : count f ≤ vertexLimit = p .ends .few in
     let a : getD r v 0 ≡ offset f v = S .offsets v (omega arith) in
     let b : k ≡ length (neighbours f v) = taken-neighbours f K L p v k l t in

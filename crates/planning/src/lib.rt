@@ -37,13 +37,13 @@ fn taken(row: Row) -> u8
 }
 
 // Where the subproblems of each found vertex begin among those of one recorded vertex.
-fn starts(found: &[u8], neighbours: &PlaceTable) -> [u8; Limits::BOUNDS]
+fn starts(found: &[u8], neighbours: &PlaceTable) -> [u8; Limits::PREFIXES]
     requires { ⌜ Sound (now found) ⌝ }
     requires { ⌜ now neighbours ≡ neighbourTable (now found) ⌝ }
     ensures { λ r. ⌜ Starts (now (found .entry)) (count (now (found .entry))) r ⌝ }
 {
     let n = vertex_count(found);
-    let mut s = [0u8; Limits::BOUNDS];
+    let mut s = [0u8; Limits::PREFIXES];
     let mut v: usize = 0;
     while v < n {
         let k = taken(neighbours[v]);
@@ -121,7 +121,7 @@ fn find(row: Row, v: u8) -> u8
 }
 
 // Where the subproblem of x with v as its s stands among those of one recorded vertex, 0 where x is no vertex.
-fn behind_one(neighbours: &PlaceTable, starts: &[u8; Limits::BOUNDS], v: u8, x: u8) -> u8
+fn behind_one(neighbours: &PlaceTable, starts: &[u8; Limits::PREFIXES], v: u8, x: u8) -> u8
     requires { ⌜ ((y : ℕ) → getD (now starts) y 0 ≤ widthLimit) ⌝ }
     ensures { λ r. ⌜ Behind (now (neighbours .entry)) (now (starts .entry)) v x r ⌝ }
 {
@@ -134,7 +134,7 @@ fn behind_one(neighbours: &PlaceTable, starts: &[u8; Limits::BOUNDS], v: u8, x: 
 }
 
 // In each place of v's neighbours, where the subproblem behind it stands.
-fn behind_row(neighbours: &PlaceTable, starts: &[u8; Limits::BOUNDS], v: u8) -> Row
+fn behind_row(neighbours: &PlaceTable, starts: &[u8; Limits::PREFIXES], v: u8) -> Row
     requires { ⌜ v < vertexLimit ⌝ }
     requires { ⌜ ((y : ℕ) → getD (now starts) y 0 ≤ widthLimit) ⌝ }
     ensures { λ r. ⌜ BehindTo (now (neighbours .entry)) (now (starts .entry)) v degreeLimit r ⌝ }
@@ -235,7 +235,7 @@ fn store_found(
     found: &[u8],
     neighbours: &PlaceTable,
     labels: &PlaceTable,
-    starts: &[u8; Limits::BOUNDS],
+    starts: &[u8; Limits::PREFIXES],
 )
     requires { ⌜ length (now plan) ≡ planRows ⌝ }
     requires { ⌜ FoundRead (now found) (now neighbours) (now labels) (now starts) ⌝ }

@@ -13,7 +13,7 @@ use lib.Seq.{getD-set-same, getD-set-other}
 use Rattle.foundations.specs.Tests.{same?}
 use Rattle.model.specs.Certificate.{squares, certificateLength, others, recordLength, recordAt}
 use Rattle.model.specs.Graph.{neighbours}
-use Rattle.model.specs.Limits.{vertexLimit, degreeLimit, widthLimit, squareLimit, certificateLimit}
+use Rattle.model.specs.Limits.{vertexLimit, degreeLimit, widthLimit, squareLimit, certificateLimit, prefixLimit}
 use Rattle.model.specs.Order.{children, choices, width, subproblems, offset, index, uAt, vAt, sAt}
 use Rattle.model.specs.Tree.{count}
 use Rattle.model.specs.Values.{Subproblem}
@@ -36,12 +36,12 @@ squaresIn places v = getD (getD places v []) 1 0
 
 -- the sums of squares up to vertex n
 pub record SquaresTo (f : List ℕ) (n : ℕ) (places : List (List ℕ)) : Type 0 where
-  pub long : length places ≡ vertexLimit + 1
+  pub long : length places ≡ prefixLimit
   pub get : (v : ℕ) → v ≤ n → squaresIn places v ≡ squares f v
 
 -- all of them, and where the rows up to row n begin
 pub record PlacesTo (r f : List ℕ) (n : ℕ) (places : List (List ℕ)) : Type 0 where
-  pub long : length places ≡ vertexLimit + 1
+  pub long : length places ≡ prefixLimit
   pub begins : (i : ℕ) → i ≤ n → beginIn places i ≡ recordAt r f (i * width f)
   pub square : (v : ℕ) → v ≤ count f → squaresIn places v ≡ squares f v
 
@@ -76,7 +76,7 @@ pub squares-first : (f : List ℕ) → 0 ≡ squares f 0
 unfolding squares
 squares-first f = refl
 
-pub squares-none : (f : List ℕ) (places : List (List ℕ)) → length places ≡ vertexLimit + 1 → SquaresTo f 0 (set places 0 (0 ∷ 0 ∷ []))
+pub squares-none : (f : List ℕ) (places : List (List ℕ)) → length places ≡ prefixLimit → SquaresTo f 0 (set places 0 (0 ∷ 0 ∷ []))
 squares-none f places e = record {
   long = length-set places 0 (0 ∷ 0 ∷ []) ∙ e;
   get = λ v h. let q : v ≡ 0 = omega arith in rw (q, getD-set-same places 0 (0 ∷ 0 ∷ []) [] (omega arith)) (squares-first f);
@@ -135,7 +135,7 @@ module _ {r f : List ℕ} {plan : List (List ℕ)} (I : Inputs r f plan) where
 
   pub squares-more : {places : List (List ℕ)} (v x : ℕ) → v < count f → SquaresTo f v places → x ≡ squares f (v + 1) → SquaresTo f (v + 1) (set places (v + 1) (0 ∷ x ∷ []))
   squares-more {places} v x l B e =
-      let n : length places ≡ vertexLimit + 1 = B .long in
+      let n : length places ≡ prefixLimit = B .long in
       let few = inputs-few .1 in
       record {
         long = length-set places (v + 1) (0 ∷ x ∷ []) ∙ n;
@@ -159,7 +159,7 @@ module _ {r f : List ℕ} {plan : List (List ℕ)} (I : Inputs r f plan) where
 
   pub places-none : {places : List (List ℕ)} (x : ℕ) → x ≡ recordAt r f (0 * width f) → SquaresTo f (count f) places → PlacesTo r f 0 (set places 0 (x ∷ 0 ∷ []))
   places-none {places} x e B =
-      let n : length places ≡ vertexLimit + 1 = B .long in
+      let n : length places ≡ prefixLimit = B .long in
       record {
         long = length-set places 0 (x ∷ 0 ∷ []) ∙ n;
         begins = λ i h. let q : i ≡ 0 = omega arith in rw (q, getD-set-same places 0 (x ∷ 0 ∷ []) [] (omega arith)) e;
@@ -178,7 +178,7 @@ module _ {r f : List ℕ} {plan : List (List ℕ)} (I : Inputs r f plan) where
 
   pub places-more : {places : List (List ℕ)} (i x s : ℕ) → i < count r → PlacesTo r f i places → x ≡ recordAt r f ((i + 1) * width f) → s ≡ squaresIn places (i + 1) → PlacesTo r f (i + 1) (set places (i + 1) (x ∷ s ∷ []))
   places-more {places} i x s l B e g =
-      let n : length places ≡ vertexLimit + 1 = B .long in
+      let n : length places ≡ prefixLimit = B .long in
       let few = inputs-few .0 in
       record {
         long = length-set places (i + 1) (x ∷ s ∷ []) ∙ n;

@@ -11,7 +11,7 @@ use plan::offset as offset_of;
 ghost use Prim.Native.Nat.{_+_, _*_, _<_, _≤_};
 ghost use mathlib.Core.Path.{_≡_};
 ghost use lib.ListN.{length};
-ghost use Rattle.model.specs.Limits.{vertexLimit, degreeLimit, certificateLimit};
+ghost use Rattle.model.specs.Limits.{vertexLimit, degreeLimit, certificateLimit, prefixLimit};
 ghost use Rattle.model.specs.Tree.{count};
 ghost use Rattle.model.specs.Graph.{neighbours};
 ghost use Rattle.model.specs.Order.{width, offset};
@@ -60,7 +60,7 @@ fn others_before(d: usize, q: usize) -> usize
 
 // Row i says where the records of the i-th vertex in postorder begin, and what the squares of the degrees of the first i found vertices add up to. A
 // certificate's length fits 32 bits.
-pub type Places = [[u32; 2]; Limits::BOUNDS];
+pub type Places = [[u32; 2]; Limits::PREFIXES];
 
 // A place as an index.
 fn wide(x: u32) -> usize
@@ -95,7 +95,7 @@ pub fn size(plan: &Plan, i: usize) -> usize
 
 // The sums of squares, each in its place.
 fn square_sums(p: &mut Places, recorded: &[u8], found: &[u8], plan: &Plan)
-    requires { ⌜ length (now p) ≡ vertexLimit + 1 ⌝ }
+    requires { ⌜ length (now p) ≡ prefixLimit ⌝ }
     requires { ⌜ Inputs (now recorded) (now found) (now plan) ⌝ }
     ensures { λ _. ⌜ SquaresTo (now (found .entry)) (count (now (found .entry))) (now (p .exit)) ⌝ }
 {
@@ -113,7 +113,7 @@ fn square_sums(p: &mut Places, recorded: &[u8], found: &[u8], plan: &Plan)
 
 // Where the records stand, over whatever stood there.
 pub fn places_of(p: &mut Places, recorded: &[u8], found: &[u8], plan: &Plan)
-    requires { ⌜ length (now p) ≡ vertexLimit + 1 ⌝ }
+    requires { ⌜ length (now p) ≡ prefixLimit ⌝ }
     requires { ⌜ Inputs (now recorded) (now found) (now plan) ⌝ }
     ensures { λ _. ⌜ Laid (now (recorded .entry)) (now (found .entry)) (now (plan .entry)) (now (p .exit)) ⌝ }
 {

@@ -12,7 +12,7 @@ use borrow.Author.Tests.{lt-ltb, le-ltb, ltb-true, ltb-false, eq-eqb, ne-eqb}
 use Rattle.foundations.specs.Tests.{same, same?, less?, eqb-same, T→true}
 use Rattle.foundations.specs.Int.{int, canon}
 use Rattle.foundations.specs.Sums.{sum, pick, lsum, sum-first}
-use Rattle.foundations.specs.Members.{mem, mem-nil, mem-here, mem-there, mem-cases, mem-ne, getD-mem, Distinct, del, mem-del, del-mem, lsum-ext, mem-occ, place, place-low, place-at, place-of, at-once}
+use Rattle.foundations.specs.Members.{mem, mem-nil, mem-here, mem-there, mem-cases, mem-ne, getD-mem, Distinct, del, mem-del, del-mem, lsum-ext, mem-occ, place, place-low, place-at, at-once}
 use Rattle.model.specs.Weights.{Weight, none, some, _⊑_, plusW, maxW}
 use Rattle.model.specs.Values.{greatest, best}
 use Rattle.subtrees.specs.WeightLaws.{⊑-antisym, max-either}

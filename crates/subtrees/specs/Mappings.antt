@@ -14,7 +14,7 @@ use Rattle.foundations.specs.Sums.{pick, sumℤ, sumℤ-ext}
 use Rattle.foundations.specs.Tests.{same-test}
 use Rattle.model.specs.Edges.{Joins}
 use Rattle.model.specs.Graph.{edges, joined}
-use Rattle.model.specs.Mapping.{partner, mapped, Mapped, Taken, Path, stay, move, IsMapping, num, vertexPairs, edgeTerm, edgePairs, weight}
+use Rattle.model.specs.Mapping.{partner, mapped, Mapped, Taken, WalkIn, stay, move, IsMapping, num, vertexPairs, edgeTerm, edgePairs, weight}
 use Rattle.model.specs.Order.{parent}
 use Rattle.model.specs.Pairs.{vertexPair, edgePair}
 use Rattle.model.specs.Tree.{count, endA, endB}
@@ -33,7 +33,7 @@ pub record Agree (n : ℕ) (p : List ℕ) (on : ℕ → Bool) (to : ℕ → ℕ)
 pub agree-self : (n : ℕ) (p : List ℕ) → Agree n p (mapped p) (λ u. partner p u)
 agree-self n p = record { on-is = λ u l. refl; to-is = λ u l o. refl }
 
-path-end : {s : List ℕ} {S : ℕ → Type 0} {x y : ℕ} → Path s S x y → S y
+path-end : {s : List ℕ} {S : ℕ → Type 0} {x y : ℕ} → WalkIn s S x y → S y
 path-end (stay h) = h
 path-end (move p e h) = h
 
@@ -45,7 +45,7 @@ module _ (table r f : List ℕ) (tr : IsTree r) (tf : IsTree f) where
   -- ---- from the paper's mapping to the theory's
 
   module _ (p : List ℕ) (M : IsMapping table r f p) where
-    way-of : {x y : ℕ} → Path r (Mapped r p) x y → Way (Step (count r) (parent r) (mapped p)) x y
+    way-of : {x y : ℕ} → WalkIn r (Mapped r p) x y → Way (Step (count r) (parent r) (mapped p)) x y
     way-of (stay h) = stop
     way-of (move {y} {z} w e h) = onward (way-of w) (record { from = path-end w; to = h; edge = above-of r tr y z e })
 
@@ -94,12 +94,12 @@ module _ (table r f : List ℕ) (tr : IsTree r) (tf : IsTree f) where
           (λ q. edge-up u h (j .0) (subst (λ (y : ℕ). Mapped r p y) (sym (j .1)) k) (pair-swap table r f (parent r u) u (partner p (parent r u)) (partner p u) ∙ q)))
           (above-of r tr u x e)
 
-      path-of : (x y : ℕ) → Mapped r p x → Way (Step (count r) (parent r) on) x y → Path r (Mapped r p) x y
-      path-of x y h w = way-keeps (λ (z : ℕ). Path r (Mapped r p) x z) w
+      path-of : (x y : ℕ) → Mapped r p x → Way (Step (count r) (parent r) on) x y → WalkIn r (Mapped r p) x y
+      path-of x y h w = way-keeps (λ (z : ℕ). WalkIn r (Mapped r p) x z) w
           (λ y z s q. move q (of-above r tr y z (s .from .0) (s .to .0) (s .edge)) (of-on z (s .to .0) (s .to .1))) (stay h)
 
-      found-path : (x y : ℕ) → Mapped r p x → Way (Step (count r) (parent r) on) x y → Path f (Taken r p) (partner p x) (partner p y)
-      found-path x y h w = way-keeps (λ (z : ℕ). Path f (Taken r p) (partner p x) (partner p z)) w
+      found-path : (x y : ℕ) → Mapped r p x → Way (Step (count r) (parent r) on) x y → WalkIn f (Taken r p) (partner p x) (partner p y)
+      found-path x y h w = way-keeps (λ (z : ℕ). WalkIn f (Taken r p) (partner p x) (partner p z)) w
           (λ y z s q. let a = of-on y (s .from .0) (s .from .1) in let b = of-on z (s .to .0) (s .to .1) in
           move q (sym (joined-alike y z a b) ∙ of-above r tr y z (s .from .0) (s .to .0) (s .edge)) (z, b, refl))
           (stay (x, h, refl))
@@ -112,7 +112,7 @@ module _ (table r f : List ℕ) (tr : IsTree r) (tf : IsTree f) where
         different = λ u x h k e. M .apart u x (h .0) (k .0) (on-of u h) (on-of x k) (sym (to-of u h) ∙ e ∙ to-of x k);
         recordedConnected = λ x y h k. path-of x y h (M .connected x y (h .0) (on-of x h) (k .0) (on-of y k));
         foundConnected = λ v y a b.
-            subst (λ (z : ℕ). Path f (Taken r p) z y) (a .2) (subst (λ (z : ℕ). Path f (Taken r p) (partner p (a .0)) z) (b .2)
+            subst (λ (z : ℕ). WalkIn f (Taken r p) z y) (a .2) (subst (λ (z : ℕ). WalkIn f (Taken r p) (partner p (a .0)) z) (b .2)
             (found-path (a .0) (b .0) (a .1) (M .connected (a .0) (b .0) (a .1 .0) (on-of (a .0) (a .1)) (b .1 .0) (on-of (b .0) (b .1)))));
         joinedAlike = joined-alike;
         vertexAllowed = λ u h. rw (to-of u h) (M .vertices u (h .0) (on-of u h));

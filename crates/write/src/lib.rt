@@ -64,7 +64,7 @@ pub fn write_certificate(
     }
     let mut plan = [[0u8; Limits::PLACES]; Blocks::ALL];
     make(&mut plan, recorded, found);
-    let mut places = [[0u32; 2]; Limits::BOUNDS];
+    let mut places = [[0u32; 2]; Limits::PREFIXES];
     places_of(&mut places, recorded, found, &plan);
     let l = begin(&places, vertex_count(recorded));
     if certificate.len() < l {

@@ -4,6 +4,7 @@ use mathlib.Core.Path.{_≡_, sym, _∙_, refl}
 use Rattle.model.specs.Calls.{inputItem}
 use Rattle.job_items.specs.Items.{earlyItem, early-passed, advance-early}
 use Rattle.jobs.specs.Outcomes.{advance-refused-as}
+use Rattle.jobs.specs.Theorems.{advance-call}
 use borrow.Author.Needs.{needs}
 use Rattle.jobs.proofs.advance_core.Statement.{statement}
 use Rattle.jobs.proofs.advance_core.Tie as tie
@@ -22,7 +23,7 @@ returns : tie.Need-returns
 returns c =
     let a = c .before .before .before .before .before .before .args in
     let e = c .before .early-item .ensures in
-    advance-refused-as (a .job) (a .table .now) (a .recorded .now) (a .found .now) (a .work .now) (a .budget) _ (e ∙ sym (advance-early (a .table .now) (a .recorded .now) (a .found .now) (a .work .now) (a .job) (λ z. c .if1 .taken (e ∙ z)))) (c .if1 .taken)
+    advance-call (advance-refused-as (a .job) (a .table .now) (a .recorded .now) (a .found .now) (a .work .now) (a .budget) _ (e ∙ sym (advance-early (a .table .now) (a .recorded .now) (a .found .now) (a .work .now) (a .job) (λ z. c .if1 .taken (e ∙ z)))) (c .if1 .taken))
 
 make-requires : tie.Need-make-requires
 make-requires c κs = (refl, input-sound _ _ _ (passing (c .before)))
@@ -33,7 +34,7 @@ advance-ready-requires c κs =
     (record { passes = passing (m .before .before); planned = m .make .ensures }, zero (m .before .before))
 
 returns-2 : tie.Need-returns-2
-returns-2 c = c .before .advance-ready .ensures
+returns-2 c = advance-call (c .before .advance-ready .ensures)
 
 pub advance-core-spec : {M : Type 1} → statement M
 advance-core-spec =

@@ -1,8 +1,8 @@
 -- `starts` meets its contract. Assumes nothing.
-use Rattle.model.specs.Limits.{vertexLimit, degreeLimit}
+use Rattle.model.specs.Limits.{prefixLimit, degreeLimit}
 use Rattle.model.specs.Tree.{count}
 use Rattle.planning.specs.Making.{zeros, Starts, starts-none, starts-more}
-use Prim.Native.Nat.{_+_, _≤_, _-_}
+use Prim.Native.Nat.{_≤_, _-_}
 use mathlib.Core.Path.{_≡_, refl}
 use borrow.Author.Needs.{needs}
 use native.Mathlib.Omega.{arith}
@@ -21,7 +21,7 @@ vertex-count-requires c κs =
     record { some = e .some; few = e .few; long = e .long }
 
 loop-holds : tie.Need-loop-holds Inv-loop μ-loop
-loop-holds c = (omega arith, search needs, starts-none _ _ refl (zeros (vertexLimit + 1)))
+loop-holds c = (omega arith, search needs, starts-none _ _ refl (zeros prefixLimit))
 
 mul-taken : tie.Need-mul-taken Inv-loop μ-loop
 mul-taken c = search needs

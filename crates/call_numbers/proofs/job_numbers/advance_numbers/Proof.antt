@@ -24,7 +24,7 @@ returns c =
     let n = c .before .advance-result .ensures in
     advances (a .job) (a .table .now) (a .recorded .now) (a .found .now) (a .work .now) (a .budget)
     (core .before .before .record-of .result) (core .advance-core .result) (c .before .advance-result .result .refusal) (c .before .advance-result .result .count) (c .memory-after .result) _
-    (core .before .before .record-of .ensures) (e .0) (e .1) (n .0) (n .1) (c .memory-after .ensures)
+    (core .before .before .record-of .ensures) e (n .0) (n .1) (c .memory-after .ensures)
 
 pub advance-numbers-spec : {M : Type 1} → statement M
 advance-numbers-spec =
