@@ -1,24 +1,26 @@
-/* check TABLE RECORDED FOUND CERTIFICATE: the office's check of a certificate, from four files. Prints `accepted`, or `refused` and the item's number.
+/* check TABLE RECORDED FOUND CERTIFICATE: the office's check of a certificate, from four files; one of them may be `-`,
+ * standard input. Prints `accepted`, or `refused` and the item's number, and then what the item says on standard error.
  * Ends with 0 if accepted, 1 if refused, 2 if a file cannot be read or nothing can be printed. */
 #include "files.h"
+#include "items.h"
 #include "../include/pensummer.h"
-
-#include <stdio.h>
 
 int main(int argc, char **argv) {
     if (argc != 5) {
         fputs("usage: check TABLE RECORDED FOUND CERTIFICATE\n", stderr);
         return 2;
     }
-    struct bytes table = read_file("check", argv[1]);
-    struct bytes recorded = read_file("check", argv[2]);
-    struct bytes found = read_file("check", argv[3]);
-    struct bytes certificate = read_file("check", argv[4]);
-    uint32_t refusal = pensummer_check(table.at, table.len, recorded.at, recorded.len, found.at, found.len, certificate.at, certificate.len);
-    if (refusal == 0)
+    struct bytes files[4];
+    read_files("check", argv + 1, 4, files);
+    uint32_t refusal = pensummer_check(files[0].at, files[0].len, files[1].at, files[1].len, files[2].at, files[2].len,
+                                       files[3].at, files[3].len);
+    if (refusal == 0) {
         puts("accepted");
-    else
-        printf("refused %u\n", (unsigned)refusal);
-    printed("check");
-    return refusal == 0 ? 0 : 1;
+        said("check", stdout);
+        return 0;
+    }
+    printf("refused %u\n", (unsigned)refusal);
+    said("check", stdout);
+    fprintf(stderr, "check: %s\n", item_sentence(refusal));
+    return 1;
 }

@@ -1,24 +1,32 @@
-/* Reading and writing whole files, for the office's programs. */
+/* Reading and writing whole files, for the office's programs. `-` is standard input or standard output. */
 #ifndef OFFICE_FILES_H
 #define OFFICE_FILES_H
 
 #include <stddef.h>
 #include <stdint.h>
+#include <stdio.h>
 
 struct bytes {
     uint8_t *at;
     size_t len;
 };
 
-/* The bytes of a file, but no more than one over the length of the longest certificate: a longer file is refused by its length all the same. Ends the
- * program with a message and status 2 if the file cannot be read. `at` is never null. */
-struct bytes read_file(const char *program, const char *name);
+/* Reads `count` files, of which one may be `-`: their bytes, but no more than one over the length of the longest
+ * certificate, since a longer file is refused by its length all the same. Ends the program with a message and status 2
+ * if one cannot be read. `at` is never null. */
+void read_files(const char *program, char **names, int count, struct bytes *files);
 
-/* Leaves these bytes as the file, whole, or the file as it was: they are written beside it and then moved there. Ends the program with a message and
- * status 2 if that fails. */
+/* Where a program speaks that writes to `name`: standard error if that is standard output, `-` or by another name. */
+FILE *speech(const char *name);
+
+/* Writes these bytes to `name`. A regular file, or one that is not there yet, is left whole or as it was: the bytes are
+ * written beside it, brought to the disk and moved into its place. Symbolic links are followed and stay, the file's
+ * mode stays, and a file that may not be written is not replaced; another name of it (a hard link) keeps the old bytes.
+ * Anything else, as a device, a FIFO or a descriptor, is opened and written to. Ends the program with a message and
+ * status 2 if that fails, with nothing left beside the file. */
 void write_file(const char *program, const char *name, const uint8_t *at, size_t len);
 
-/* Sends what was printed on its way. Ends the program with a message and status 2 if it cannot be. */
-void printed(const char *program);
+/* Sends what was said on its way. Ends the program with a message and status 2 if it cannot be. */
+void said(const char *program, FILE *to);
 
 #endif

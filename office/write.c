@@ -1,10 +1,11 @@
-/* write TABLE RECORDED FOUND CERTIFICATE: writes a certificate for the first three files as the fourth. Prints `written` and its length in bytes, or
- * `refused` and the item's number, and then leaves the fourth as it was. Ends with 0 if written, 1 if refused, 2 if a file cannot be read or written or
- * nothing can be printed. */
+/* write TABLE RECORDED FOUND CERTIFICATE: writes a certificate for the first three files as the fourth. One of the
+ * three may be `-`, standard input, and the fourth may be `-`, standard output. Prints `written` and its length in
+ * bytes, or `refused` and the item's number; then it leaves the fourth as it was and says on standard error what the
+ * item says. Where the certificate goes to standard output, all of this is printed on standard error. Ends with 0 if
+ * written, 1 if refused, 2 if a file cannot be read or written or nothing can be printed. */
 #include "files.h"
+#include "items.h"
 #include "../include/pensummer.h"
-
-#include <stdio.h>
 
 static int32_t work[PENSUMMER_WORK_MOST];
 static uint8_t certificate[PENSUMMER_CERTIFICATE_MOST];
@@ -14,17 +15,20 @@ int main(int argc, char **argv) {
         fputs("usage: write TABLE RECORDED FOUND CERTIFICATE\n", stderr);
         return 2;
     }
-    struct bytes table = read_file("write", argv[1]);
-    struct bytes recorded = read_file("write", argv[2]);
-    struct bytes found = read_file("write", argv[3]);
-    struct pensummer_write_result r = pensummer_write(table.at, table.len, recorded.at, recorded.len, found.at, found.len,
-                                                      work, PENSUMMER_WORK_MOST, certificate, PENSUMMER_CERTIFICATE_MOST);
+    struct bytes files[3];
+    read_files("write", argv + 1, 3, files);
+    struct pensummer_write_result r =
+        pensummer_write(files[0].at, files[0].len, files[1].at, files[1].len, files[2].at, files[2].len,
+                        work, PENSUMMER_WORK_MOST, certificate, PENSUMMER_CERTIFICATE_MOST);
+    FILE *speak = speech(argv[4]);
     if (r.refusal == 0) {
         write_file("write", argv[4], certificate, r.length);
-        printf("written %u\n", (unsigned)r.length);
-    } else {
-        printf("refused %u\n", (unsigned)r.refusal);
+        fprintf(speak, "written %u\n", (unsigned)r.length);
+        said("write", speak);
+        return 0;
     }
-    printed("write");
-    return r.refusal == 0 ? 0 : 1;
+    fprintf(speak, "refused %u\n", (unsigned)r.refusal);
+    said("write", speak);
+    fprintf(stderr, "write: %s\n", item_sentence(r.refusal));
+    return 1;
 }

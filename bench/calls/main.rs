@@ -8,6 +8,7 @@ mod plants;
 mod proved;
 mod stack;
 
+use pensummer::{CERTIFICATE_MOST, VERTICES_MOST, WORK_MOST};
 use plants::{equal_paths, plant, Plant, Random};
 use std::hint::black_box;
 use std::time::Instant;
@@ -15,8 +16,6 @@ use std::time::Instant;
 const PLANTS: usize = 6;
 const ROUNDS: usize = 25;
 const SLICE: usize = 256;
-const WORK: usize = 64 * 190;
-const LONGEST: usize = 278_736;
 const CALLS: [&str; 4] = ["match", "slices", "write", "check"];
 
 /// What the calls are lent: work numbers, a mapping, a certificate and its length.
@@ -28,7 +27,7 @@ struct Room {
 }
 
 fn room(fill: u8) -> Room {
-    Room { work: vec![fill as i32; WORK], mapping: vec![fill; 64], certificate: vec![fill; LONGEST], length: 0 }
+    Room { work: vec![fill as i32; WORK_MOST], mapping: vec![fill; VERTICES_MOST], certificate: vec![fill; CERTIFICATE_MOST], length: 0 }
 }
 
 /// A whole job: start, advances, finish.

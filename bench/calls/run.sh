@@ -1,8 +1,6 @@
 #!/usr/bin/env bash
-# Builds the proved calls as a static library and compares their speed with plain ones in Rust. Needs rt and rustc.
+# Compares the speed of the proved calls with plain ones in Rust. Needs cargo, and rt where the archive is to be made.
 set -euo pipefail
 cd "$(dirname "$0")/../.."
-rt staticlib exports | tail -n 1
-mkdir -p target/bench
-rustc -O -C target-cpu=x86-64 -L native=target/staticlib -l static=exports bench/calls/main.rs -o target/bench/calls
-target/bench/calls
+tools/archive
+cargo run --offline --locked --release --quiet -p bench_calls

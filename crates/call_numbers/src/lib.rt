@@ -1,4 +1,4 @@
-//! The calls as numbers: the covered core of the C interface. `exports` holds the functions that a C program finds, each thin over one of these.
+//! The calls as numbers: the covered core of the C interface. `pensummer` holds the functions that a C program finds, each thin over one of these.
 pub mod certificate_numbers;
 pub mod job_numbers;
 

@@ -1,6 +1,6 @@
 //! The certificate's check with one reader that carries the certificate along (paper 01, "The sheet"): thin functions over the plain ones on the bytes
 //! and a number, `check_front` and `check_records`. `check_certificate` takes byte buffers from C; an archive has its own crate's functions only, so that
-//! a C program finds it as `pensummer_check` (crates/exports).
+//! a C program finds it as `pensummer_check` (crates/pensummer).
 use check_front::check_front;
 use check_records::check_records;
 ghost use mathlib.Core.Path.{_≡_};

@@ -27,39 +27,47 @@ fn match_input(input: &[u8], work: &mut [i32], mapping: &mut [u8]) -> MatchAnswe
     match_trees(table, recorded, found, work, mapping)
 }
 
-fn end_line() {
-    io::write_all(STDOUT_FILENO, b"\n");
+// The functions that print answer whether all of it was written.
+fn print(text: &[u8]) -> bool {
+    io::write_all(STDOUT_FILENO, text)
 }
 
-// A word, a space, a number and the end of the line.
-fn print_number(word: &[u8], x: u64) {
-    io::write_all(STDOUT_FILENO, word);
-    io::write_all(STDOUT_FILENO, b" ");
-    io::print_decimal(STDOUT_FILENO, x);
-    end_line();
+// A number and what stands after it.
+fn print_number(x: u64, end: &[u8]) -> bool {
+    io::print_decimal(STDOUT_FILENO, x) && print(end)
 }
 
-// The line of a recorded vertex: its number, a space, its partner or a hyphen.
-fn print_partner(u: usize, partner: u8) {
-    io::print_decimal(STDOUT_FILENO, u as u64);
-    io::write_all(STDOUT_FILENO, b" ");
+// A recorded vertex's partner, or a hyphen, and the end of the line.
+fn print_partner(partner: u8) -> bool {
     if partner == Limits::NONE {
-        io::write_all(STDOUT_FILENO, b"-");
+        print(b"-\n")
     } else {
-        io::print_decimal(STDOUT_FILENO, partner as u64);
+        print_number(partner as u64, b"\n")
     }
-    end_line();
 }
 
-// A line for each of the first n recorded vertices.
-fn print_partners(mapping: &[u8], n: usize)
+// A line for each of the first n recorded vertices: its number, a space, its partner or a hyphen.
+fn print_partners(mapping: &[u8], n: usize) -> bool
     requires { ⌜ n ≤ length (now mapping) ⌝ }
 {
     let mut u = 0;
-    while u < n {
-        print_partner(u, mapping[u]);
+    let mut written = true;
+    while u < n && written {
+        written = print_number(u as u64, b" ") && print_partner(mapping[u]);
         u += 1;
     }
+    written
+}
+
+// The weight, which is never negative: its gain over 0 is it, unsigned. Then the partners.
+fn print_found(weight: i32, mapping: &[u8], n: usize) -> bool
+    requires { ⌜ n ≤ length (now mapping) ⌝ }
+{
+    print(b"weight ") && print_number(gain(0, weight), b"\n") && print_partners(mapping, n)
+}
+
+fn print_refused(item: u8) -> bool {
+    print(b"refused ") && print_number(item as u64, b"\n")
 }
 
 // How many vertices the recorded part of the input names, 0 where its head is cut off.
@@ -73,20 +81,14 @@ fn recorded_count(input: &[u8]) -> usize
 }
 
 // Entry point.
-// Matches the input and prints the weight and every recorded vertex's partner, or the number of the item that refuses it. It leaves what the match
-// leaves.
-pub fn print_match(input: &[u8], work: &mut [i32], mapping: &mut [u8])
+// Matches the input and prints the weight and every recorded vertex's partner, or the number of the item that refuses it; answers whether all was
+// printed. It leaves what the match leaves.
+pub fn print_match(input: &[u8], work: &mut [i32], mapping: &mut [u8]) -> bool
     ensures { λ _. ⌜ PartsLeave (now (input .entry)) (now (work .entry)) (now (mapping .entry)) (now (work .exit)) (now (mapping .exit)) ⌝ }
 {
     let n = recorded_count(input);
     match match_input(input, work, mapping) {
-        MatchAnswer::Found(w) => {
-            // the weight is never negative: this is it, unsigned
-            print_number(b"weight", gain(0, w));
-            print_partners(mapping, n);
-        }
-        MatchAnswer::Refused(k) => {
-            print_number(b"refused", k as u64);
-        }
+        MatchAnswer::Found(w) => print_found(w, mapping, n),
+        MatchAnswer::Refused(k) => print_refused(k),
     }
 }

@@ -1,5 +1,5 @@
 //! A job in slices: start, advance and finish (paper 01, "Jobs"), over the record by value. The calls that are lent the record are thin functions over
-//! these: crates/exports, job_calls.
+//! these: crates/pensummer, job_calls.
 mod delivery;
 mod slices;
 

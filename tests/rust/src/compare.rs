@@ -1,12 +1,15 @@
 //! Each exported call run once over lent memory that was filled with junk, and everything that it gives back or leaves behind compared with
 //! what the paper says: the first item that applies, or the result; every byte and number lent, the room after it and around it included.
 
-use crate::calls::{self, JobRecord};
 use crate::certificate;
 use crate::mapping;
 use crate::random::Random;
 use crate::reading::{number_at, Inputs, Plant, FORBIDDEN};
 use crate::values::{self, Order, MOST};
+use pensummer::{Job, Refusal};
+
+/// Numbers in a record's `idle` that say that no job is running.
+pub const IDLE: [u32; 9] = [1, 2, 255, 256, 257, 1 << 16, 1 << 24, 1 << 31, u32::MAX];
 
 /// How many cells of junk stand before and after a lent buffer.
 const MARGIN: usize = 3;
@@ -96,46 +99,45 @@ pub fn match_trees(inputs: &Inputs, work_room: usize, mapping_room: usize, rando
     let expected =
         Solved::read(inputs).and_then(|s| s.enough_work(work_room)).and_then(|s| if mapping_room < s.plant.n() { Err(18) } else { Ok(s) });
     let (mut lent, mut work, mut mapping) = (inputs.clone(), junk_numbers(work_room, random), junk_bytes(mapping_room, random));
-    let result = calls::match_trees(&lent, work.lend(), mapping.lend());
+    let result = pensummer::match_trees(lent.lent(), work.lend(), mapping.lend()).map_err(Refusal::number);
     look_again(&mut lent);
     assert!(lent == *inputs, "match changed its inputs{inputs:?}");
     match expected {
         Err(item) => {
-            assert_eq!(result.refusal, item, "match: refusal, {work_room} numbers, {mapping_room} bytes{inputs:?}");
+            assert_eq!(result, Err(item), "match: refusal, {work_room} numbers, {mapping_room} bytes{inputs:?}");
             assert!(work.unchanged() && mapping.unchanged(), "match: memory after refusal {item}{inputs:?}");
             Err(item)
         }
         Ok(s) => {
-            assert_eq!(result.refusal, 0, "match: refusal, {work_room} numbers, {mapping_room} bytes{inputs:?}");
+            assert_eq!(result, Ok(s.weight), "match: heaviest weight, {work_room} numbers, {mapping_room} bytes{inputs:?}");
             assert_eq!(work.now()[..s.values.len()], s.values, "match: values{inputs:?}");
             assert!(work.rest_unchanged(s.values.len()), "match: work numbers past the values{inputs:?}");
             assert!(mapping.rest_unchanged(s.plant.n()), "match: bytes past the mapping{inputs:?}");
             let mapping = &mapping.now()[..s.plant.n()];
             assert!(mapping::is_mapping(&s.plant, mapping), "match: {mapping:?} is no mapping{inputs:?}");
-            assert_eq!(mapping::weight(&s.plant, mapping), result.weight as i64, "match: weight of the mapping {mapping:?}{inputs:?}");
-            assert_eq!(result.weight, s.weight, "match: heaviest weight{inputs:?}");
+            assert_eq!(mapping::weight(&s.plant, mapping), s.weight as i64, "match: weight of the mapping {mapping:?}{inputs:?}");
             Ok(mapping.to_vec())
         }
     }
 }
 
 /// Starting: items 1 to 13.
-pub fn start(job: &mut JobRecord, inputs: &Inputs, work: &[i32], random: &mut Random) -> Result<(), u32> {
+pub fn start(job: &mut Job, inputs: &Inputs, work: &[i32], random: &mut Random) -> Result<(), u32> {
     let expected = Plant::read(inputs).and_then(|p| if work.len() < p.subproblems() { Err(13) } else { Ok(p) });
     let (mut lent, mut work, before) = (inputs.clone(), Lent::holding(work, || random.number()), *job);
-    let refusal = calls::start(job, &lent, work.lend());
+    let result = job.start(lent.lent(), work.lend()).map_err(Refusal::number);
     look_again(&mut (&mut lent, &mut work));
     assert!(lent == *inputs, "start changed its inputs{inputs:?}");
     assert!(work.unchanged(), "start changed a work number{inputs:?}");
     match expected {
         Err(item) => {
-            assert_eq!(refusal, item, "start: refusal{inputs:?}");
+            assert_eq!(result, Err(item), "start: refusal{inputs:?}");
             assert_eq!(*job, before, "start: record after refusal {item}{inputs:?}");
             Err(item)
         }
         Ok(p) => {
-            assert_eq!(refusal, 0, "start: refusal{inputs:?}");
-            let started = JobRecord { idle: 0, n: p.n() as u32, m: p.m() as u32, position: 0, total: before.total };
+            assert_eq!(result, Ok(()), "start: refusal{inputs:?}");
+            let started = Job { idle: 0, n: p.n() as u32, m: p.m() as u32, position: 0, total: before.total };
             assert_eq!(*job, started, "start: record{inputs:?}");
             Ok(())
         }
@@ -143,7 +145,7 @@ pub fn start(job: &mut JobRecord, inputs: &Inputs, work: &[i32], random: &mut Ra
 }
 
 /// Items 1 to 16, which advance and finish test.
-fn job_items(job: &JobRecord, inputs: &Inputs, work: &[i32]) -> Result<(Plant, Order), u32> {
+fn job_items(job: &Job, inputs: &Inputs, work: &[i32]) -> Result<(Plant, Order), u32> {
     let plant = Plant::read(inputs)?;
     if work.len() < plant.subproblems() {
         return Err(13);
@@ -169,25 +171,24 @@ fn job_items(job: &JobRecord, inputs: &Inputs, work: &[i32]) -> Result<(Plant, O
 }
 
 /// An advance: items 1 to 16. Works on the caller's work numbers; gives back the refusal, or how many subproblems were solved.
-pub fn advance(job: &mut JobRecord, inputs: &Inputs, budget: u32, work: &mut [i32], random: &mut Random) -> Result<u32, u32> {
+pub fn advance(job: &mut Job, inputs: &Inputs, budget: u32, work: &mut [i32], random: &mut Random) -> Result<u32, u32> {
     let expected = job_items(job, inputs, work);
     let (mut copy, mut lent_work, before) = (inputs.clone(), Lent::holding(work, || random.number()), *job);
-    let result = calls::advance(job, &copy, budget, lent_work.lend());
+    let result = job.advance(copy.lent(), budget, lent_work.lend()).map_err(Refusal::number);
     look_again(&mut copy);
     assert!(copy == *inputs, "advance changed its inputs{inputs:?}");
     match expected {
         Err(item) => {
-            assert_eq!(result.refusal, item, "advance: refusal for {before:?}, {} numbers{inputs:?}", work.len());
+            assert_eq!(result, Err(item), "advance: refusal for {before:?}, {} numbers{inputs:?}", work.len());
             assert_eq!(*job, before, "advance: record after refusal {item}{inputs:?}");
             assert!(lent_work.unchanged(), "advance: work numbers after refusal {item}{inputs:?}");
             Err(item)
         }
         Ok((plant, order)) => {
-            assert_eq!(result.refusal, 0, "advance: refusal for {before:?}, {} numbers{inputs:?}", work.len());
             let from = before.position as usize;
             let count = (budget as usize).min(plant.subproblems() - from);
-            assert_eq!(result.count as usize, count, "advance: count for {before:?}, budget {budget}{inputs:?}");
-            let advanced = JobRecord {
+            assert_eq!(result, Ok(count as u32), "advance: count for {before:?}, budget {budget}, {} numbers{inputs:?}", work.len());
+            let advanced = Job {
                 position: before.position + count as u32,
                 total: (before.total as u64 + count as u64).min(4_294_967_295) as u32,
                 ..before
@@ -203,7 +204,7 @@ pub fn advance(job: &mut JobRecord, inputs: &Inputs, budget: u32, work: &mut [i3
 }
 
 /// Finishing: items 1 to 18. The mapping must be legal and its weight exact. Gives back the refusal, or the weight.
-pub fn finish(job: &JobRecord, inputs: &Inputs, work: &[i32], mapping_room: usize, random: &mut Random) -> Result<i32, u32> {
+pub fn finish(job: &Job, inputs: &Inputs, work: &[i32], mapping_room: usize, random: &mut Random) -> Result<i32, u32> {
     let expected = job_items(job, inputs, work).and_then(|(plant, order)| {
         if (job.position as usize) < plant.subproblems() {
             Err(17)
@@ -215,28 +216,24 @@ pub fn finish(job: &JobRecord, inputs: &Inputs, work: &[i32], mapping_room: usiz
     });
     let (mut copy, mut work, mut mapping, mut lent) =
         (inputs.clone(), Lent::holding(work, || random.number()), junk_bytes(mapping_room, random), *job);
-    let result = calls::finish(&lent, &copy, work.lend(), mapping.lend());
+    let result = lent.finish(copy.lent(), work.lend(), mapping.lend()).map_err(Refusal::number);
     look_again(&mut (&mut copy, &mut work, &mut lent));
     assert!(copy == *inputs && lent == *job, "finish changed its inputs or the record{inputs:?}");
     assert!(work.unchanged(), "finish changed a work number{inputs:?}");
     match expected {
         Err(item) => {
-            assert_eq!(result.refusal, item, "finish: refusal for {job:?}, {mapping_room} bytes{inputs:?}");
+            assert_eq!(result, Err(item), "finish: refusal for {job:?}, {mapping_room} bytes{inputs:?}");
             assert!(mapping.unchanged(), "finish: mapping after refusal {item}{inputs:?}");
             Err(item)
         }
         Ok((plant, _)) => {
-            assert_eq!(result.refusal, 0, "finish: refusal for {job:?}, {mapping_room} bytes{inputs:?}");
+            assert!(result.is_ok(), "finish: refusal {result:?} for {job:?}, {mapping_room} bytes{inputs:?}");
             assert!(mapping.rest_unchanged(plant.n()), "finish: bytes past the mapping{inputs:?}");
             let mapping = &mapping.now()[..plant.n()];
             assert!(mapping::is_mapping(&plant, mapping), "finish: {mapping:?} is no mapping, work {:?}{inputs:?}", work.now());
-            assert_eq!(
-                mapping::weight(&plant, mapping),
-                result.weight as i64,
-                "finish: weight of {mapping:?}, work {:?}{inputs:?}",
-                work.now()
-            );
-            Ok(result.weight)
+            let weight = mapping::weight(&plant, mapping);
+            assert_eq!(result.map(i64::from), Ok(weight), "finish: weight of {mapping:?}, work {:?}{inputs:?}", work.now());
+            result
         }
     }
 }
@@ -252,26 +249,25 @@ pub fn write(inputs: &Inputs, work_room: usize, certificate_room: usize, random:
         }
     });
     let (mut lent, mut work, mut bytes) = (inputs.clone(), junk_numbers(work_room, random), junk_bytes(certificate_room, random));
-    let result = calls::write(&lent, work.lend(), bytes.lend());
+    let result = pensummer::write_certificate(lent.lent(), work.lend(), bytes.lend()).map_err(Refusal::number);
     look_again(&mut lent);
     assert!(lent == *inputs, "write changed its inputs{inputs:?}");
     match expected {
         Err(item) => {
-            assert_eq!(result.refusal, item, "write: refusal, {work_room} numbers, {certificate_room} bytes{inputs:?}");
+            assert_eq!(result, Err(item), "write: refusal, {work_room} numbers, {certificate_room} bytes{inputs:?}");
             assert!(work.unchanged() && bytes.unchanged(), "write: memory after refusal {item}{inputs:?}");
             Err(item)
         }
         Ok(s) => {
-            assert_eq!(result.refusal, 0, "write: refusal, {work_room} numbers, {certificate_room} bytes{inputs:?}");
             let length = certificate::length(&s.plant);
-            assert_eq!(result.length as usize, length, "write: length{inputs:?}");
+            assert_eq!(result, Ok(length), "write: length, {work_room} numbers, {certificate_room} bytes{inputs:?}");
             assert_eq!(work.now()[..s.values.len()], s.values, "write: values{inputs:?}");
             assert!(work.rest_unchanged(s.values.len()), "write: work numbers past the values{inputs:?}");
             assert!(bytes.rest_unchanged(length), "write: bytes past the certificate{inputs:?}");
             let certificate = &bytes.now()[..length];
             let records = certificate::records(&s.plant, &s.order);
             assert_eq!(certificate::check(&s.plant, &s.order, &records, certificate), 0, "write: the independent check{inputs:?}");
-            assert_eq!(calls::check(inputs, certificate), 0, "write: the check{inputs:?}");
+            assert_eq!(pensummer::check_certificate(inputs.lent(), certificate), Ok(()), "write: the check{inputs:?}");
             assert_eq!(number_at(certificate, 4), s.weight, "write: weight{inputs:?}");
             for (record, &value) in records.iter().zip(&s.values) {
                 assert_eq!(number_at(certificate, record.value_at()), value, "write: value of {:?}{inputs:?}", record.of);
@@ -296,7 +292,7 @@ pub fn check(inputs: &Inputs, certificate: &[u8]) -> u32 {
 /// The check must give this number.
 pub fn check_gives(inputs: &Inputs, certificate: &[u8], item: u32) -> u32 {
     let (mut lent, mut lent_certificate) = (inputs.clone(), certificate.to_vec());
-    let result = calls::check(&lent, &lent_certificate);
+    let result = pensummer::check_certificate(lent.lent(), &lent_certificate).map_or_else(Refusal::number, |()| 0);
     look_again(&mut (&mut lent, &mut lent_certificate));
     assert!(lent == *inputs && lent_certificate == certificate, "check changed what it was lent{inputs:?}");
     assert_eq!(result, item, "check{inputs:?}\n certificate {}", crate::reading::hex(certificate));
@@ -306,7 +302,7 @@ pub fn check_gives(inputs: &Inputs, certificate: &[u8], item: u32) -> u32 {
 /// What is lent to a call beside its inputs.
 #[derive(Clone, PartialEq, Eq)]
 pub struct Lending {
-    pub job: JobRecord,
+    pub job: Job,
     pub work: Vec<i32>,
     pub budget: u32,
     pub mapping_room: usize,

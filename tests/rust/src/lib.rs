@@ -1,9 +1,8 @@
-//! Tests of the exported calls. `calls` declares them and wraps them safely; all else here is an independent reading of paper 01, written
-//! from the paper's words alone: none of it comes from the definitions, the proofs or the code under test.
+//! Tests of the library's calls, through the crate `pensummer`. What judges them is an independent reading of paper 01, written from the
+//! paper's words alone: none of it comes from the definitions, the proofs or the code under test.
 //!
 //! The paper's words: layout = tree, device = vertex, line = edge, kind = label, sheet = certificate, bound = dual, allowance = budget.
 
-pub mod calls;
 pub mod certificate;
 pub mod compare;
 pub mod mapping;

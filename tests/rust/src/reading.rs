@@ -14,6 +14,13 @@ pub struct Inputs {
     pub found: Vec<u8>,
 }
 
+impl Inputs {
+    /// As the calls take them.
+    pub fn lent(&self) -> pensummer::Inputs<'_> {
+        pensummer::Inputs { table: &self.table, recorded: &self.recorded, found: &self.found }
+    }
+}
+
 impl std::fmt::Debug for Inputs {
     fn fmt(&self, f: &mut std::fmt::Formatter) -> std::fmt::Result {
         write!(f, "\n table    {}\n recorded {}\n found    {}", hex(&self.table), hex(&self.recorded), hex(&self.found))

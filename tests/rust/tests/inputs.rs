@@ -1,9 +1,9 @@
 //! Inputs that no caller should send: cut off, too long, random, damaged or faulty in several ways at once. Every call gives the number of the
 //! first item that applies and leaves all that it was lent as it was.
 
-use pensummer_tests::calls::{JobRecord, IDLE};
+use pensummer::Job;
 use pensummer_tests::certificate;
-use pensummer_tests::compare::{self, every_call, Lending, Solved};
+use pensummer_tests::compare::{self, every_call, Lending, Solved, IDLE};
 use pensummer_tests::plants::{self, small_shapes, Weights};
 use pensummer_tests::random::Random;
 use pensummer_tests::reading::{Inputs, FORBIDDEN};
@@ -16,7 +16,7 @@ fn lending(inputs: &Inputs, random: &mut Random) -> Lending {
     let certificate_room = certificate::length(&solved.plant);
     let certificate = compare::write(inputs, end, certificate_room, random).expect("a written certificate");
     Lending {
-        job: JobRecord { idle: 0, n: n as u32, m: m as u32, position: position as u32, total: random.draw() as u32 },
+        job: Job { idle: 0, n: n as u32, m: m as u32, position: position as u32, total: random.draw() as u32 },
         work: solved.values,
         budget: random.below(40) as u32,
         mapping_room: n,
@@ -127,7 +127,7 @@ fn random_bytes() {
                 }
             }
             if random.once_in(10) {
-                lending.job = JobRecord {
+                lending.job = Job {
                     idle: if random.once_in(4) { *random.pick(&IDLE) } else { 0 },
                     n: random.below(7) as u32,
                     m: random.below(7) as u32,
@@ -249,7 +249,7 @@ fn several_faults_at_once() {
         // some calls have room for any such plant, some only for the small one
         let room = if random.once_in(2) { 14 * 40 } else { base.work.len() };
         let lending = Lending {
-            job: JobRecord { n: inputs.recorded[2] as u32, m: inputs.found[2] as u32, position: random.below(3) as u32, ..base.job },
+            job: Job { n: inputs.recorded[2] as u32, m: inputs.found[2] as u32, position: random.below(3) as u32, ..base.job },
             work: (0..room).map(|_| *random.pick(&[0, 0, 0, FORBIDDEN, 7])).collect(),
             mapping_room: random.below(20),
             certificate_room: random.below(60_000),

@@ -1,13 +1,13 @@
 //! Jobs: in random slices they end as the match in one call does; over altered memory they refuse by number or work from what is lent.
 
-use pensummer_tests::calls::{self, JobRecord, IDLE};
-use pensummer_tests::compare::{self, Solved};
+use pensummer::Job;
+use pensummer_tests::compare::{self, Solved, IDLE};
 use pensummer_tests::plants::{self, small_shapes};
 use pensummer_tests::random::Random;
 use pensummer_tests::reading::{Inputs, Plant, FORBIDDEN};
 use pensummer_tests::values::Order;
 
-const FRESH: JobRecord = JobRecord { idle: 1, n: 0, m: 0, position: 0, total: 0 };
+const FRESH: Job = Job { idle: 1, n: 0, m: 0, position: 0, total: 0 };
 
 /// A budget (allowance): often small, sometimes 0 or the most.
 fn budget(random: &mut Random) -> u32 {
@@ -22,8 +22,8 @@ fn budget(random: &mut Random) -> u32 {
 }
 
 /// A record of any bytes; its total is not so high that a job would meet the limit.
-fn any_record(random: &mut Random) -> JobRecord {
-    JobRecord {
+fn any_record(random: &mut Random) -> Job {
+    Job {
         idle: random.draw() as u32,
         n: random.draw() as u32,
         m: random.draw() as u32,
@@ -34,7 +34,7 @@ fn any_record(random: &mut Random) -> JobRecord {
 
 #[test]
 fn fresh_record() {
-    assert_eq!(calls::fresh(), FRESH);
+    assert_eq!(Job::fresh(), FRESH);
 }
 
 #[test]
@@ -42,7 +42,7 @@ fn slices_end_as_one_call() {
     let mut random = Random::of_test("slices_end_as_one_call");
     let shapes = small_shapes();
     let (mut tried, mut slices) = (0, 0);
-    let mut job = calls::fresh();
+    let mut job = Job::fresh();
     for _ in 0..105 {
         for recorded in &shapes {
             for found in &shapes {
@@ -51,7 +51,7 @@ fn slices_end_as_one_call() {
                 let mut work: Vec<i32> = (0..solved.values.len() + random.below(3)).map(|_| random.number()).collect();
                 // some records are fresh, some of any bytes, some of a job that was left or is done
                 if random.once_in(4) {
-                    job = if random.once_in(2) { calls::fresh() } else { any_record(&mut random) };
+                    job = if random.once_in(2) { Job::fresh() } else { any_record(&mut random) };
                 }
                 let before = job.total;
                 compare::start(&mut job, &inputs, &work, &mut random).expect("a start");
@@ -102,7 +102,7 @@ const STRANGE: [i32; 8] = [127_000_000, 127_000_001, -1_000_000, -1_000_001, FOR
 #[derive(Clone)]
 struct Kept {
     inputs: Inputs,
-    job: JobRecord,
+    job: Job,
     work: Vec<i32>,
 }
 
@@ -180,7 +180,7 @@ fn altered_memory() {
     for _ in 0..6_000 {
         let inputs = plants::small_plant(&shapes, &mut random);
         let room = Plant::read(&inputs).expect("an accepted plant").subproblems();
-        let mut kept = Kept { inputs, job: calls::fresh(), work: (0..room).map(|_| random.number()).collect() };
+        let mut kept = Kept { inputs, job: Job::fresh(), work: (0..room).map(|_| random.number()).collect() };
         compare::start(&mut kept.job, &kept.inputs, &kept.work, &mut random).expect("a start");
         for _ in 0..14 {
             let sound = kept.clone();
@@ -223,7 +223,7 @@ fn finish_over_any_numbers() {
         let inputs = plants::small_plant(&shapes, &mut random);
         let solved = Solved::read(&inputs).expect("an accepted plant");
         let (n, m) = (solved.plant.n(), solved.plant.m());
-        let job = JobRecord { idle: 0, n: n as u32, m: m as u32, position: solved.values.len() as u32, total: 0 };
+        let job = Job { idle: 0, n: n as u32, m: m as u32, position: solved.values.len() as u32, total: 0 };
         for nearly in [false, true] {
             let mut work = plausible(&solved.plant, &mut random);
             if nearly {
@@ -250,23 +250,23 @@ fn records_and_numbers_at_the_limits() {
         let inputs = plants::small_plant(&shapes, &mut random);
         let solved = Solved::read(&inputs).expect("an accepted plant");
         let (n, m, end) = (solved.plant.n() as u32, solved.plant.m() as u32, solved.values.len() as u32);
-        let right = JobRecord { idle: 0, n, m, position: end, total: 7 };
+        let right = Job { idle: 0, n, m, position: end, total: 7 };
         let mut records = vec![right, FRESH, any_record(&mut random)];
-        records.extend(IDLE.map(|idle| JobRecord { idle, ..right }));
+        records.extend(IDLE.map(|idle| Job { idle, ..right }));
         for other in [0, 1, 63, 64, 65, 128, 1 << 16, u32::MAX / 3, u32::MAX] {
-            records.push(JobRecord { n: other, ..right });
-            records.push(JobRecord { m: other, ..right });
-            records.push(JobRecord { n: other, m: other, ..right });
+            records.push(Job { n: other, ..right });
+            records.push(Job { m: other, ..right });
+            records.push(Job { n: other, m: other, ..right });
         }
         for position in [0, 1, end - 1, end + 1, u32::MAX] {
-            records.push(JobRecord { position, ..right });
+            records.push(Job { position, ..right });
         }
         // the record's own n and m decide about its position: 64 by 64 allows 12,160
         for position in [12_160, 12_161] {
-            records.push(JobRecord { n: 64, m: 64, position, ..right });
+            records.push(Job { n: 64, m: 64, position, ..right });
         }
         for total in [u32::MAX, u32::MAX - 1, u32::MAX - end, u32::MAX - end + 1] {
-            records.push(JobRecord { position: 0, total, ..right });
+            records.push(Job { position: 0, total, ..right });
         }
         for record in records {
             for room in [solved.values.len() - 1, solved.values.len(), solved.values.len() + 2] {
@@ -290,12 +290,12 @@ fn records_and_numbers_at_the_limits() {
                 for position in [at as u32, at as u32 + 1, end] {
                     let mut work = solved.values.clone();
                     work[at] = number;
-                    let mut job = JobRecord { position, ..right };
+                    let mut job = Job { position, ..right };
                     let result = compare::advance(&mut job, &inputs, budget(&mut random), &mut work, &mut random);
                     refusals[result.err().unwrap_or(0) as usize] += 1;
                     let mut work = solved.values.clone();
                     work[at] = number;
-                    let job = JobRecord { position, ..right };
+                    let job = Job { position, ..right };
                     let result = compare::finish(&job, &inputs, &work, n as usize, &mut random);
                     refusals[result.err().unwrap_or(0) as usize] += 1;
                 }

@@ -1,6 +1,6 @@
 //! Plants of 64 by 64 vertices of several shapes, against the independent dynamic program; the longest certificate is among those written.
 
-use pensummer_tests::calls::{self, JobRecord};
+use pensummer::Job;
 use pensummer_tests::certificate;
 use pensummer_tests::compare::{self, Solved};
 use pensummer_tests::plants::{self, large_shapes, Shape, Weights, WEIGHTS};
@@ -35,7 +35,7 @@ fn plants_of_middle_size() {
         let solved = Solved::read(&inputs).expect("an accepted plant");
         let (values, length) = (solved.values.len(), certificate::length(&solved.plant));
         compare::match_trees(&inputs, values + random.below(2), n + random.below(2), &mut random).expect("a match");
-        let mut job = calls::fresh();
+        let mut job = Job::fresh();
         let mut work: Vec<i32> = (0..values).map(|_| random.number()).collect();
         compare::start(&mut job, &inputs, &work, &mut random).expect("a start");
         while (job.position as usize) < values {
@@ -117,14 +117,14 @@ fn jobs_in_slices() {
         let found = &random.pick(&shapes).1;
         let inputs = large(shape, found, Weights::Wide, Weights::SmallForbidden, &mut random);
         let solved = Solved::read(&inputs).expect("an accepted plant");
-        let mut job = calls::fresh();
+        let mut job = Job::fresh();
         let mut work: Vec<i32> = (0..VALUES).map(|_| random.number()).collect();
         compare::start(&mut job, &inputs, &work, &mut random).expect("a start");
         while (job.position as usize) < VALUES {
             let budget = random.below(1_500) as u32;
             compare::advance(&mut job, &inputs, budget, &mut work, &mut random).expect("an advance");
         }
-        assert_eq!(job, JobRecord { idle: 0, n: 64, m: 64, position: VALUES as u32, total: VALUES as u32 });
+        assert_eq!(job, Job { idle: 0, n: 64, m: 64, position: VALUES as u32, total: VALUES as u32 });
         assert_eq!(work, solved.values);
         assert_eq!(compare::finish(&job, &inputs, &work, 64, &mut random), Ok(solved.weight));
         // the same end with every allowed number at its most: the mapping is legal and its weight exact
@@ -133,7 +133,7 @@ fn jobs_in_slices() {
         }
         compare::finish(&job, &inputs, &work, 64, &mut random).expect("a finish");
         // and an advance over them stores no more than the most
-        let mut half = JobRecord { position: VALUES as u32 / 2, ..job };
+        let mut half = Job { position: VALUES as u32 / 2, ..job };
         compare::advance(&mut half, &inputs, u32::MAX, &mut work, &mut random).expect("an advance");
         tried += 1;
     }

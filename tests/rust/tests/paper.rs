@@ -1,6 +1,6 @@
 //! The paper's small plants 1 to 10 and the limits that it names after them.
 
-use pensummer_tests::calls;
+use pensummer::Refusal;
 use pensummer_tests::compare;
 use pensummer_tests::random::Random;
 use pensummer_tests::reading::{table_bytes, tree_bytes, Inputs, FORBIDDEN};
@@ -31,15 +31,15 @@ fn room(inputs: &Inputs) -> (usize, usize) {
 fn found_with(inputs: &Inputs, random: &mut Random) -> (i32, Vec<u8>) {
     let (numbers, bytes) = room(inputs);
     let (mut work, mut mapping) = (vec![0x55; numbers], vec![0x55; bytes]);
-    let result = calls::match_trees(inputs, &mut work, &mut mapping);
-    assert_eq!(result.refusal, 0, "{inputs:?}");
+    let weight = pensummer::match_trees(inputs.lent(), &mut work, &mut mapping);
+    let weight = weight.unwrap_or_else(|refusal| panic!("{refusal}{inputs:?}"));
     assert_eq!(compare::match_trees(inputs, numbers, bytes, random), Ok(mapping.clone()), "the same call twice{inputs:?}");
-    (result.weight, mapping)
+    (weight, mapping)
 }
 
 fn refused(inputs: &Inputs) -> u32 {
     let (mut work, mut mapping) = (vec![0x55; 20_000], vec![0x55; 64]);
-    calls::match_trees(inputs, &mut work, &mut mapping).refusal
+    pensummer::match_trees(inputs.lent(), &mut work, &mut mapping).map_or_else(Refusal::number, |_| 0)
 }
 
 #[test]
@@ -67,14 +67,13 @@ fn small_plants_1_to_8() {
 fn small_plant_9() {
     let plant = Inputs { table: table_p(1), recorded: path(&[0]), found: path(&[0]) };
     let certificate = [0xC1, 1, 1, 1, 5, 0, 0, 0, 0xC1, 2, 0, 0xC1, 3, 5, 0, 0, 0];
-    assert_eq!(calls::check(&plant, &certificate), 0);
+    assert_eq!(pensummer::check_certificate(plant.lent(), &certificate), Ok(()));
     let with = |changes: &[(usize, u8)]| {
         let mut changed = certificate;
         for &(at, byte) in changes {
             changed[at] = byte;
         }
-        assert_eq!(compare::check(&plant, &changed), calls::check(&plant, &changed));
-        calls::check(&plant, &changed)
+        compare::check(&plant, &changed)
     };
     assert_eq!(with(&[(4, 6)]), 22);
     assert_eq!(with(&[(13, 6)]), 23);

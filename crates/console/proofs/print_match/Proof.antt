@@ -30,20 +30,11 @@ match-input-requires c κs = search needs
 enum-known-w : tie.Need-enum-known-w
 enum-known-w c = search needs
 
-slice-aggregate-print-number : tie.Need-slice-aggregate-print-number
-slice-aggregate-print-number c = search needs
-
-gain-requires : tie.Need-gain-requires
-gain-requires c κs = search needs
-
-print-number-requires : tie.Need-print-number-requires
-print-number-requires c κs = search needs
-
-print-partners-requires : tie.Need-print-partners-requires
-print-partners-requires c κs =
-    let m = c .before .before .before .before in
-    let at-call = m .before .before .before .before .before .before in
-    let found = tag-found (at-call .match-input .result) (m .before .before .match .keys1) in
+print-found-requires : tie.Need-print-found-requires
+print-found-requires c κs =
+    let m = c .before .before .before in
+    let at-call = m .before .before .before .before in
+    let found = tag-found (at-call .match-input .result) (m .match .keys1) in
     let room = found-room (at-call .match-input .ensures) found in
     let n = at-call .before .before .before .recorded-count .ensures in
     omega (arith, room, n, at-call .match-input .kept)
@@ -51,24 +42,18 @@ print-partners-requires c κs =
 enum-known-k : tie.Need-enum-known-k
 enum-known-k c = search needs
 
-slice-aggregate-print-number-2 : tie.Need-slice-aggregate-print-number-2
-slice-aggregate-print-number-2 c = search needs
-
-cast-print-number : tie.Need-cast-print-number
-cast-print-number c = search needs
-
-print-number-requires-2 : tie.Need-print-number-requires-2
-print-number-requires-2 c κs = search needs
+print-refused-requires : tie.Need-print-refused-requires
+print-refused-requires c κs = search needs
 
 returns : tie.Need-returns
 returns c =
-    let m = c .before .before .before .before .before in
-    call-leaves (m .before .before .before .before .before .before .match-input .ensures)
+    let m = c .before .before .before .before in
+    call-leaves (m .before .before .before .before .match-input .ensures)
 
 returns-2 : tie.Need-returns-2
 returns-2 c =
-    let m = c .before .before in
-    call-leaves (m .before .before .before .before .before .before .match-input .ensures)
+    let m = c .before .before .before in
+    call-leaves (m .before .before .before .before .match-input .ensures)
 
 pub print-match-spec : {M : Type 1} → statement M
 print-match-spec =
@@ -77,14 +62,9 @@ print-match-spec =
     recorded-count-requires
     match-input-requires
     enum-known-w
-    slice-aggregate-print-number
-    gain-requires
-    print-number-requires
-    print-partners-requires
+    print-found-requires
     enum-known-k
-    slice-aggregate-print-number-2
-    cast-print-number
-    print-number-requires-2
+    print-refused-requires
     (λ c. search needs)
     (λ c. search needs)
     returns

@@ -1,0 +1,82 @@
+//! What a mapping says of each vertex, in words that a service engineer can act on: kept, changed, gone, new.
+use crate::answer::{Answer, Certainty};
+
+/// What became of a vertex.
+#[derive(Clone, Copy, Debug, PartialEq, Eq)]
+pub enum State {
+    /// It has a partner of the same label, and so has its edge to the mapped vertex above it.
+    Kept,
+    /// It has a partner; its label or that edge's label is another.
+    Changed,
+    /// A recorded vertex without a partner.
+    Gone,
+    /// A found vertex without a partner.
+    New,
+}
+
+impl State {
+    pub fn word(self) -> &'static str {
+        match self {
+            State::Kept => "kept",
+            State::Changed => "changed",
+            State::Gone => "gone",
+            State::New => "new",
+        }
+    }
+}
+
+/// A recorded vertex, seen from vertex 0: its partner, and the edge to the vertex above it if that has a partner too.
+pub struct Row {
+    pub vertex: usize,
+    pub depth: usize,
+    pub parent: Option<usize>,
+    pub partner: Option<usize>,
+    /// The labels of the edge to the parent and of the partners' edge.
+    pub edge: Option<(usize, usize)>,
+    pub state: State,
+    pub certain: Certainty,
+}
+
+/// The recorded vertices, parents before children and children ascending.
+pub fn rows(answer: &Answer) -> Vec<Row> {
+    let rooted = answer.recorded.rooted(0);
+    let row = |&vertex: &usize| {
+        let (parent, partner) = (rooted.parent[vertex], answer.partner[vertex]);
+        let edge = parent.and_then(|parent| answer.edge_pair(vertex, parent));
+        let other_edge = edge.map_or(false, |(a, b)| a != b);
+        let state = match partner {
+            None => State::Gone,
+            Some(v) if other_edge || answer.label_changed(vertex, v) => State::Changed,
+            Some(_) => State::Kept,
+        };
+        Row { vertex, depth: rooted.depth[vertex], parent, partner, edge, state, certain: answer.certain[vertex] }
+    };
+    rooted.preorder.iter().map(row).collect()
+}
+
+/// The found vertices without a partner, ascending.
+pub fn new_vertices<'a>(answer: &'a Answer) -> impl Iterator<Item = usize> + 'a {
+    (0..answer.back.len()).filter(move |&v| answer.back[v].is_none())
+}
+
+/// How many of each, and how many are not certain.
+#[derive(Clone, Copy, Default)]
+pub struct Counts {
+    pub kept: usize,
+    pub changed: usize,
+    pub gone: usize,
+    pub new: usize,
+    pub unsure: usize,
+}
+
+pub fn counts(answer: &Answer, rows: &[Row]) -> Counts {
+    let of = |state| rows.iter().filter(|row| row.state == state).count();
+    let unsure = |all: &[Certainty]| all.iter().filter(|&&certain| certain != Certainty::Certain).count();
+    Counts {
+        kept: of(State::Kept),
+        changed: of(State::Changed),
+        gone: of(State::Gone),
+        new: new_vertices(answer).count(),
+        unsure: unsure(&answer.certain) + unsure(&answer.new_certain),
+    }
+}

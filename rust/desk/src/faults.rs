@@ -1,0 +1,102 @@
+//! Where in its input a refused plant is at fault, for people. The number of the item is the library's; this finds the place that it is about.
+use crate::plant::{Fault, Place, Plant, Tree, Weights};
+use pensummer::{DEGREE_MOST, EDGE_LABELS_MOST, FORBIDDEN, VERTEX_LABELS_MOST, VERTICES_MOST, WEIGHT_MOST};
+
+/// What item `item`, which refused the plant, is about; none if that item does not apply by this reading.
+pub fn fault(plant: &Plant, item: u32) -> Option<Fault> {
+    match item {
+        1 => label_counts(plant),
+        2 => weight_range(&plant.table.vertex).or_else(|| weight_range(&plant.table.edge)),
+        3..=7 => tree_fault(plant, &plant.recorded, item - 3),
+        8..=12 => tree_fault(plant, &plant.found, item - 8),
+        _ => None,
+    }
+}
+
+fn found(place: &Place, reason: String) -> Option<Fault> {
+    Some(Fault { place: place.clone(), reason })
+}
+
+fn label_counts(plant: &Plant) -> Option<Fault> {
+    let counts = [("vertex", plant.table.vertex.labels(), VERTEX_LABELS_MOST), ("edge", plant.table.edge.labels(), EDGE_LABELS_MOST)];
+    let (kind, count, most) = counts.into_iter().find(|(_, count, most)| !(1..=*most).contains(count))?;
+    found(&plant.table.place, format!("there are 1 to {most} {kind} labels, not {count}"))
+}
+
+fn weight_range(weights: &Weights) -> Option<Fault> {
+    let all = weights.rows.iter().flatten().zip(weights.places.iter().flatten());
+    let mut far = all.filter(|(&weight, _)| weight != FORBIDDEN && !(-WEIGHT_MOST..=WEIGHT_MOST).contains(&weight));
+    let (weight, place) = far.next()?;
+    found(place, format!("a weight is -{WEIGHT_MOST} to {WEIGHT_MOST} or `forbidden`, not {weight}"))
+}
+
+/// The first fault of a tree of the kind that its items have in order: form, label, end, loop, degree.
+fn tree_fault(plant: &Plant, tree: &Tree, kind: u32) -> Option<Fault> {
+    match kind {
+        0 => form(tree),
+        1 => labels(plant, tree),
+        2 => ends(tree),
+        3 => loops(tree),
+        _ => degrees(tree),
+    }
+}
+
+fn form(tree: &Tree) -> Option<Fault> {
+    let (size, edges) = (tree.size(), tree.edges.len());
+    if !(1..=VERTICES_MOST).contains(&size) {
+        return found(&tree.place, format!("a tree has 1 to {VERTICES_MOST} vertices, not {size}"));
+    }
+    let place = tree.edges.get(size - 1).map_or(&tree.place, |edge| &edge.place);
+    let many = |count, one: &str, more: &str| format!("{count} {}", if count == 1 { one } else { more });
+    let wanted = many(size - 1, "edge", "edges");
+    let reason = format!("a tree of {} has {wanted}, not {edges}", many(size, "vertex", "vertices"));
+    if edges == size - 1 {
+        return None;
+    }
+    found(place, reason)
+}
+
+fn labels(plant: &Plant, tree: &Tree) -> Option<Fault> {
+    let (most, most_edge) = (plant.table.vertex.labels(), plant.table.edge.labels());
+    if let Some((at, vertex)) = tree.vertices.iter().enumerate().find(|(_, vertex)| usize::from(vertex.label) >= most) {
+        let reason = format!("vertex {} has label {}, and labels are 0 to {}", tree.called(at), vertex.label, most - 1);
+        return found(&vertex.place, reason);
+    }
+    let edge = tree.edges.iter().find(|edge| usize::from(edge.label) >= most_edge)?;
+    found(&edge.place, format!("the edge {} has label {}, and labels are 0 to {}", edge.text, edge.label, most_edge - 1))
+}
+
+fn ends(tree: &Tree) -> Option<Fault> {
+    let edge = tree.edges.iter().find(|edge| edge.ends.iter().any(|&end| usize::from(end) >= tree.size()))?;
+    found(&edge.place, format!("the edge {} names a vertex that is not there; vertices are 0 to {}", edge.text, tree.size() - 1))
+}
+
+/// The first edge whose ends are connected by the edges before it.
+fn loops(tree: &Tree) -> Option<Fault> {
+    let mut part: Vec<usize> = (0..tree.size()).collect();
+    for edge in &tree.edges {
+        let [a, b] = edge.ends.map(usize::from);
+        let (kept, gone) = (*part.get(a)?, *part.get(b)?);
+        if kept == gone {
+            let how = if a == b { "joins a vertex with itself" } else { "closes a loop" };
+            return found(&edge.place, format!("the edge {} {how}", edge.text));
+        }
+        part.iter_mut().filter(|of| **of == gone).for_each(|of| *of = kept);
+    }
+    None
+}
+
+/// The first edge that is one too many at one of its ends.
+fn degrees(tree: &Tree) -> Option<Fault> {
+    let mut degree = vec![0; tree.size()];
+    for edge in &tree.edges {
+        for end in edge.ends.map(usize::from) {
+            *degree.get_mut(end)? += 1;
+            if degree[end] > DEGREE_MOST {
+                let reason = format!("the edge {} is one more than the {DEGREE_MOST} that vertex {} may have", edge.text, tree.called(end));
+                return found(&edge.place, reason);
+            }
+        }
+    }
+    None
+}

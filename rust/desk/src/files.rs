@@ -1,0 +1,106 @@
+//! Reading inputs and writing results as Unix tools do: `-` is standard input or output, what is no regular file is never replaced, and a regular one keeps
+//! its mode and is either whole or as it was.
+use std::fs::{self, File, OpenOptions};
+use std::io::{self, Read, Write};
+use std::path::{Path, PathBuf};
+
+/// No input of a plant is longer, in bytes.
+pub const INPUT_MOST: usize = 1 << 20;
+
+/// What went wrong with a file.
+pub struct Trouble {
+    pub name: String,
+    pub why: io::Error,
+}
+
+impl Trouble {
+    /// What a person is told; nothing where the reader of a pipe has gone, as other tools do.
+    pub fn message(&self) -> Option<String> {
+        if self.why.kind() == io::ErrorKind::BrokenPipe {
+            return None;
+        }
+        let why = self.why.to_string();
+        let why = why.split(" (os error").next().unwrap_or_default();
+        Some(format!("pensummer: {}: {why}", self.name))
+    }
+}
+
+/// A file's bytes, or those of standard input for `-`; no more than one over `most`.
+pub fn read(name: &str, most: usize) -> Result<Vec<u8>, Trouble> {
+    let mut bytes = Vec::new();
+    let limit = most as u64 + 1;
+    let read = match name {
+        "-" => io::stdin().lock().take(limit).read_to_end(&mut bytes),
+        _ => File::open(name).and_then(|file| file.take(limit).read_to_end(&mut bytes)),
+    };
+    read.map_err(|why| Trouble { name: if name == "-" { "standard input".into() } else { name.into() }, why })?;
+    Ok(bytes)
+}
+
+/// Prints to standard output, all of it.
+pub fn print(bytes: &[u8]) -> Result<(), Trouble> {
+    let mut out = io::stdout().lock();
+    out.write_all(bytes).and_then(|()| out.flush()).map_err(|why| Trouble { name: "standard output".into(), why })
+}
+
+/// Leaves these bytes as the file, or prints them for `-`.
+pub fn write(name: &str, bytes: &[u8]) -> Result<(), Trouble> {
+    if name == "-" {
+        return print(bytes);
+    }
+    let path = real(Path::new(name));
+    let written = match fs::metadata(&path) {
+        Ok(there) if there.is_file() => replace(&path, bytes, Some(there.permissions())),
+        Ok(_) => OpenOptions::new().write(true).open(&path).and_then(|mut file| file.write_all(bytes)),
+        Err(why) if why.kind() == io::ErrorKind::NotFound => replace(&path, bytes, None),
+        Err(why) => Err(why),
+    };
+    written.map_err(|why| Trouble { name: name.into(), why })
+}
+
+/// The file that a name stands for, symbolic links followed, also where there is none yet.
+fn real(path: &Path) -> PathBuf {
+    const LINKS_MOST: usize = 40;
+    let mut path = path.to_path_buf();
+    for _ in 0..LINKS_MOST {
+        match fs::read_link(&path) {
+            Ok(to) => path = path.parent().unwrap_or_else(|| Path::new("")).join(to),
+            Err(_) => break,
+        }
+    }
+    path
+}
+
+/// Writes beside the file and moves it there. A file that is there must be writable.
+fn replace(path: &Path, bytes: &[u8], mode: Option<fs::Permissions>) -> io::Result<()> {
+    if mode.is_some() {
+        OpenOptions::new().write(true).open(path)?;
+    }
+    let (beside, mut file) = new_beside(path)?;
+    let written = file
+        .write_all(bytes)
+        .and_then(|()| mode.map_or(Ok(()), |mode| file.set_permissions(mode)))
+        .and_then(|()| file.sync_all())
+        .and_then(|()| fs::rename(&beside, path));
+    if written.is_err() {
+        let _ = fs::remove_file(&beside);
+    }
+    written
+}
+
+/// A new file in the same folder.
+fn new_beside(path: &Path) -> io::Result<(PathBuf, File)> {
+    let name = path.file_name().ok_or_else(|| io::Error::from(io::ErrorKind::InvalidInput))?;
+    let mut number = 0u32;
+    loop {
+        let mut beside = std::ffi::OsString::from(".");
+        beside.push(name);
+        beside.push(format!(".{}.{number}", std::process::id()));
+        let beside = path.with_file_name(beside);
+        match OpenOptions::new().write(true).create_new(true).open(&beside) {
+            Ok(file) => return Ok((beside, file)),
+            Err(why) if why.kind() == io::ErrorKind::AlreadyExists && number < 1000 => number += 1,
+            Err(why) => return Err(why),
+        }
+    }
+}

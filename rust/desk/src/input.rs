@@ -1,0 +1,102 @@
+//! A plant from the files that a person names: text, or the bytes of the paper, in one file or in a table's and one or two of trees.
+use crate::bytes::{self, Bytes, Part};
+use crate::faults;
+use crate::files::{self, Trouble, INPUT_MOST};
+use crate::plant::{At, Fault, Place, Plant};
+use crate::text::{self, Text};
+use pensummer::Refusal;
+use std::rc::Rc;
+
+/// A plant as it was given.
+pub struct Input {
+    pub bytes: Bytes,
+    /// The plant that the bytes are of, or the first byte that is of another shape.
+    plant: Result<Plant, Fault>,
+}
+
+/// A plant that is refused: why, and where, if that is known.
+pub struct Refused {
+    pub refusal: Refusal,
+    pub fault: Option<Fault>,
+}
+
+/// Why there is no input.
+pub enum Unread {
+    Trouble(Trouble),
+    Fault(Fault),
+}
+
+impl Input {
+    /// Reads one to three files.
+    pub fn read(names: &[String]) -> Result<Input, Unread> {
+        let mut texts = Vec::new();
+        for name in names {
+            let bytes = files::read(name, INPUT_MOST).map_err(Unread::Trouble)?;
+            let file: Rc<str> = name.as_str().into();
+            if bytes.len() > INPUT_MOST {
+                let place = Place { file, at: At::Byte(INPUT_MOST) };
+                return Err(Unread::Fault(Fault { place, reason: format!("this file goes on after {INPUT_MOST} bytes, and no plant does") }));
+            }
+            texts.push(Text { file, bytes });
+        }
+        let binary = texts.iter().filter(|text| bytes::begins(&text.bytes)).count();
+        if binary == 0 {
+            return text::read(&texts).map(Input::of).map_err(Unread::Fault);
+        }
+        match texts.iter().find(|text| !bytes::begins(&text.bytes)) {
+            Some(text) => {
+                let place = Place { file: text.file.clone(), at: At::Byte(0) };
+                Err(Unread::Fault(Fault { place, reason: "this does not begin with B1, a byte of every mark, and another file does".into() }))
+            }
+            None => Ok(Input::of_bytes(&texts)),
+        }
+    }
+
+    pub fn of(plant: Plant) -> Input {
+        Input { bytes: Bytes::from(&plant), plant: Ok(plant) }
+    }
+
+    /// Of one to three files of bytes.
+    fn of_bytes(files: &[Text]) -> Input {
+        let (first, last) = (&files[0], &files[files.len() - 1]);
+        let bytes = match files {
+            [all] => Bytes::split(&all.bytes),
+            [table, trees] => Bytes { table: table.bytes.clone(), ..Bytes::split_trees(&trees.bytes) },
+            _ => Bytes { table: first.bytes.clone(), recorded: files[1].bytes.clone(), found: last.bytes.clone() },
+        };
+        let recorded_at = if files.len() == 1 { bytes.table.len() } else { 0 };
+        let found_at = if files.len() == 3 { 0 } else { recorded_at + bytes.recorded.len() };
+        let second = &files[usize::from(files.len() > 1)];
+        let plant = bytes::read(
+            Part { file: &first.file, bytes: &bytes.table, offset: 0 },
+            Part { file: &second.file, bytes: &bytes.recorded, offset: recorded_at },
+            Part { file: &last.file, bytes: &bytes.found, offset: found_at },
+        );
+        Input { bytes, plant }
+    }
+
+    /// The plant, or the fault of bytes that are none.
+    pub fn plant(&self) -> Result<&Plant, &Fault> {
+        self.plant.as_ref()
+    }
+
+    /// A refusal of this plant with its place.
+    pub fn refused(&self, refusal: Refusal) -> Refused {
+        let fault = match &self.plant {
+            Ok(plant) => faults::fault(plant, refusal.number()),
+            Err(fault) => Some(fault.clone()),
+        };
+        Refused { refusal, fault }
+    }
+
+    /// The plant, if the library accepts the table and both trees.
+    pub fn accepted(&self) -> Result<&Plant, Refused> {
+        // a start tests the items 1 to 12 and the room for work numbers, and solves nothing
+        let work = vec![0; pensummer::WORK_MOST];
+        pensummer::Job::fresh().start(self.bytes.inputs(), &work).map_err(|refusal| self.refused(refusal))?;
+        match &self.plant {
+            Ok(plant) => Ok(plant),
+            Err(_) => unreachable!("bytes of another shape are refused"),
+        }
+    }
+}

@@ -1,0 +1,27 @@
+//! What the program `pensummer` is made of.
+pub mod answer;
+pub mod bytes;
+pub mod call;
+mod certainty;
+pub mod certificate;
+pub mod changes;
+pub mod faults;
+pub mod files;
+pub mod graph;
+pub mod input;
+mod json;
+mod lines;
+pub mod listing;
+mod office;
+pub mod picture;
+pub mod plant;
+pub mod print;
+pub mod report;
+pub mod run;
+pub mod say;
+mod table_text;
+pub mod text;
+mod tree_text;
+mod usage;
+mod width;
+mod words;

@@ -1,0 +1,123 @@
+//! A mapping as a table: the recorded tree from vertex 0 down, children indented below their parent, with partners and what each pair weighs.
+use crate::answer::{Answer, Certainty};
+use crate::changes::{new_vertices, rows, Row};
+use crate::plant::Weights;
+use crate::width::columns;
+
+const HEAD: [&str; 6] = ["recorded", "label", "edge", "partner", "label", "weight"];
+
+pub fn listing(answer: &Answer) -> String {
+    let rows = rows(answer);
+    let pairs = answer.pairs().count();
+    let edges = answer.edges_sum();
+    let mapped = answer.mapped_edges().count();
+    let vertices = answer.weight - edges;
+    let mut text = format!("weight {}: vertex pairs {pairs}, weighing {vertices}; edge pairs {mapped}, weighing {edges}\n\n", answer.weight);
+    let mut table = vec![HEAD.map(str::to_owned)];
+    table.extend(rows.iter().map(|row| cells(answer, row)));
+    text += &aligned(&table);
+    text.push('\n');
+    text += &without_partner(answer);
+    text + &legend(answer, &rows)
+}
+
+/// A label: its number, and its name if it has one.
+fn label(labels: &Weights, label: usize) -> String {
+    match labels.names.get(label) {
+        Some(name) => format!("{label} {name}"),
+        None => label.to_string(),
+    }
+}
+
+fn unsure(certain: Certainty) -> &'static str {
+    if certain == Certainty::Certain {
+        ""
+    } else {
+        " ?"
+    }
+}
+
+fn cells(answer: &Answer, row: &Row) -> [String; 6] {
+    let (plant, u) = (answer.plant, row.vertex);
+    let name = format!("{:indent$}{}", "", plant.recorded.called(u), indent = 2 * row.depth);
+    let own = label(&plant.table.vertex, plant.recorded.label(u));
+    let edge = row.parent.map_or(String::new(), |parent| edge_cell(answer, row, parent));
+    match row.partner {
+        None => [name, own, edge, format!("-{}", unsure(row.certain)), String::new(), String::new()],
+        Some(v) => {
+            let changed = if answer.label_changed(u, v) { " !" } else { "" };
+            let partner = format!("{}{}", plant.found.called(v), unsure(row.certain));
+            let other = format!("{}{changed}", label(&plant.table.vertex, plant.found.label(v)));
+            [name, own, edge, partner, other, weight_cell(answer, row, v)]
+        }
+    }
+}
+
+/// The label of the edge to the parent; of a changed edge both labels.
+fn edge_cell(answer: &Answer, row: &Row, parent: usize) -> String {
+    let labels = &answer.plant.table.edge;
+    let own = label(labels, answer.recorded.edge(row.vertex, parent).unwrap_or_default());
+    match row.edge {
+        Some((was, is)) if was != is => format!("{own} -> {} !", label(labels, is)),
+        _ => own,
+    }
+}
+
+/// What the pair weighs, and what the edge above it weighs.
+fn weight_cell(answer: &Answer, row: &Row, v: usize) -> String {
+    let pair = answer.pair_weight(row.vertex, v);
+    match row.edge {
+        Some(edge) => format!("{pair} + {}", answer.edge_pair_weight(edge)),
+        None => pair.to_string(),
+    }
+}
+
+/// Columns as wide as their widest cell, two spaces between, none at a line's end.
+fn aligned(table: &[[String; 6]]) -> String {
+    let width = |column: usize| table.iter().map(|row| columns(&row[column])).max().unwrap_or(0);
+    let widths: Vec<usize> = (0..HEAD.len()).map(width).collect();
+    let mut text = String::new();
+    for row in table {
+        let mut line = String::new();
+        for (cell, &width) in row.iter().zip(&widths) {
+            line += cell;
+            line.extend(std::iter::repeat(' ').take(width - columns(cell) + 2));
+        }
+        text += line.trim_end();
+        text.push('\n');
+    }
+    text
+}
+
+fn without_partner(answer: &Answer) -> String {
+    if new_vertices(answer).next().is_none() {
+        return "every found vertex has a partner\n".into();
+    }
+    let (found, table) = (&answer.plant.found, &answer.plant.table);
+    let mut text = "found without a partner\n".to_owned();
+    for v in new_vertices(answer) {
+        text += &format!("{}{}  label {}", found.called(v), unsure(answer.new_certain[v]), label(&table.vertex, found.label(v)));
+        for (at, w) in answer.found.neighbours(v).enumerate() {
+            let edge = label(&table.edge, answer.found.edge(v, w).unwrap_or_default());
+            text += &format!(", {}{} (edge label {edge})", if at == 0 { "joined to " } else { "" }, found.called(w));
+        }
+        text.push('\n');
+    }
+    text
+}
+
+/// What the marks mean, of those that stand above.
+fn legend(answer: &Answer, rows: &[Row]) -> String {
+    let edges = rows.iter().any(|row| row.edge.map_or(false, |(was, is)| was != is));
+    let changed = edges || answer.pairs().any(|(u, v)| answer.label_changed(u, v));
+    let unsure = answer.certain.iter().chain(&answer.new_certain).any(|&certain| certain != Certainty::Certain);
+    let mut text = String::new();
+    if changed {
+        text += "\n! the label is another one now\n";
+    }
+    if unsure {
+        text += if changed { "" } else { "\n" };
+        text += "? not certain: another heaviest mapping says otherwise, or it is not known; `pensummer match` says which\n";
+    }
+    text
+}

@@ -1,0 +1,79 @@
+//! The program for people: plants as text, matched, listed, drawn, with certificates written, checked and shown.
+use desk::call::{read, Asked, Call};
+use desk::files;
+use desk::input::Refused;
+use desk::report::Report;
+use desk::run::{run, Failure};
+use std::process::ExitCode;
+
+const DONE: u8 = 0;
+const REFUSED: u8 = 1;
+const TROUBLE: u8 = 2;
+
+fn main() -> ExitCode {
+    let arguments: Result<Vec<String>, _> = std::env::args_os().skip(1).map(|word| word.into_string()).collect();
+    let status = match arguments {
+        Ok(arguments) => asked(read(&arguments)),
+        Err(word) => {
+            eprintln!("pensummer: an argument is no text in UTF-8: {}", word.to_string_lossy());
+            TROUBLE
+        }
+    };
+    ExitCode::from(status)
+}
+
+fn asked(asked: Asked) -> u8 {
+    match asked {
+        Asked::Do(call) => run(&call).map_or_else(|failure| failed(&call, failure), |()| DONE),
+        Asked::Help(text) => files::print(text.as_bytes()).map_or_else(trouble, |()| DONE),
+        Asked::Wrong(text) => {
+            eprint!("{text}");
+            TROUBLE
+        }
+    }
+}
+
+fn failed(call: &Call, failure: Failure) -> u8 {
+    match failure {
+        Failure::Trouble(why) => trouble(why),
+        Failure::Fault(fault) => {
+            eprintln!("{fault}");
+            TROUBLE
+        }
+        Failure::NotAccepted(fault) => {
+            eprintln!("{fault}");
+            REFUSED
+        }
+        Failure::Refused(refused) => said(call, &refused).map_or_else(trouble, |()| REFUSED),
+    }
+}
+
+fn trouble(why: files::Trouble) -> u8 {
+    if let Some(message) = why.message() {
+        eprintln!("{message}");
+    }
+    TROUBLE
+}
+
+/// Says why a call was refused: for programs on standard output, for people on standard error. What answers yes or no, and what prints as the match
+/// program does, has the number on standard output.
+fn said(call: &Call, refused: &Refused) -> Result<(), files::Trouble> {
+    let of_certificate = refused.refusal >= pensummer::Refusal::CERTIFICATE_FORM;
+    if call.json {
+        // a certificate's refusal was printed with the certificate
+        let report = Report { command: call.command.name, refusal: Some(refused), ..Report::default() };
+        return if of_certificate { Ok(()) } else { files::print(report.json().as_bytes()) };
+    }
+    match call.command.name {
+        "match" if call.plain => files::print(format!("refused {}\n", refused.refusal.number()).as_bytes())?,
+        "check" => files::print(format!("{}\n", refused.refusal).as_bytes())?,
+        _ => (),
+    }
+    if call.command.name != "check" {
+        eprintln!("pensummer: {}", refused.refusal);
+    }
+    if let Some(fault) = &refused.fault {
+        eprintln!("{fault}");
+    }
+    Ok(())
+}

@@ -1,0 +1,169 @@
+//! How large everything in a picture is, and where: the first of some styles that can be read on a printed page.
+use super::layout::{Layout, FOUND, RECORDED};
+use super::{widths, words};
+use crate::answer::Answer;
+
+/// A4 upright with margins of 10 mm, in points.
+const PAGE: [f64; 2] = [190.0 / 25.4 * 72.0, 277.0 / 25.4 * 72.0];
+
+/// Text on the page is to have so many points.
+const READABLE: f64 = 6.0;
+
+pub const MARGIN: f64 = 24.0;
+/// Where the rows begin.
+pub const TOP: f64 = 76.0;
+/// The font sizes of the picture's title, of the trees' titles and of the paragraphs below.
+pub const TITLE: f64 = 17.0;
+pub const HEADING: f64 = 13.0;
+pub const NOTE: f64 = 12.0;
+/// From one line of these to the next.
+pub const LEADING: f64 = 18.0;
+
+/// From a circle to its text, and from texts to lines across.
+pub const BESIDE: f64 = 5.0;
+pub const CLEAR: f64 = 6.0;
+
+pub struct Style {
+    narrow: bool,
+    /// Of a row.
+    pub height: f64,
+    /// Of a circle.
+    pub radius: f64,
+    /// Font sizes: of labels, of numbers in circles, of edge labels.
+    pub label: f64,
+    pub number: f64,
+    pub edge: f64,
+    /// How far edge labels stand above their line.
+    pub lift: f64,
+    /// Between the two trees in a row; with a line across.
+    gap: f64,
+    /// How far a tree is indented in all, if each step can be that large.
+    indent: f64,
+    largest_step: f64,
+}
+
+/// From the roomiest on. A row of the closest one has just room for its text, and a circle for two digits.
+const STYLES: [Style; 4] = [
+    style(false, [28.0, 11.0], [12.0, 11.0, 10.0], 4.0, 80.0, [640.0, 44.0]),
+    style(true, [24.0, 10.0], [12.0, 11.0, 10.0], 4.0, 70.0, [240.0, 36.0]),
+    style(true, [20.0, 8.7], [11.5, 11.0, 9.0], 3.0, 60.0, [180.0, 28.0]),
+    style(true, [17.0, 7.5], [11.0, 10.0, 8.5], 3.0, 50.0, [140.0, 24.0]),
+];
+
+const fn style(narrow: bool, row: [f64; 2], fonts: [f64; 3], lift: f64, gap: f64, steps: [f64; 2]) -> Style {
+    let ([height, radius], [label, number, edge], [indent, largest_step]) = (row, fonts, steps);
+    Style { narrow, height, radius, label, number, edge, lift, gap, indent, largest_step }
+}
+
+/// A picture before it is written.
+pub struct Sheet<'a> {
+    pub answer: &'a Answer<'a>,
+    pub layout: Layout<'a>,
+    pub style: &'static Style,
+    /// Of each vertex the text beside it.
+    pub texts: [Vec<String>; 2],
+    pub step: f64,
+    /// The radius of the corners of tree lines.
+    pub round: f64,
+    /// The lines below the trees.
+    pub notes: Vec<String>,
+    pub width: f64,
+    pub height: f64,
+}
+
+impl<'a> Sheet<'a> {
+    /// The roomiest that can be read on a page; if none can, the one whose text is largest there.
+    pub fn of(answer: &'a Answer<'a>) -> Sheet<'a> {
+        let mut best = Sheet::in_style(answer, &STYLES[0]);
+        for style in &STYLES[1..] {
+            if best.points() >= READABLE {
+                break;
+            }
+            let other = Sheet::in_style(answer, style);
+            best = if other.points() > best.points() { other } else { best };
+        }
+        best
+    }
+
+    fn in_style(answer: &'a Answer<'a>, style: &'static Style) -> Sheet<'a> {
+        let layout = Layout::of(answer, style.narrow);
+        let texts = [RECORDED, FOUND].map(|side| {
+            let vertices = 0..layout.hung[side].tree.size();
+            vertices.map(|u| words::beside(answer, &layout, side, u, style.label)).collect()
+        });
+        let step = step(answer, &layout, style);
+        let round = (step - style.radius - 1.0).min(6.0);
+        let mut sheet = Sheet { answer, layout, style, texts, step, round, notes: Vec::new(), width: 0.0, height: 0.0 };
+        sheet.width = sheet.needed_width();
+        for paragraph in words::legend(answer, &sheet.layout) {
+            sheet.notes.extend(widths::lines(&paragraph, NOTE, sheet.width - 2.0 * MARGIN));
+        }
+        sheet.height = (sheet.bottom() + 20.0 + LEADING * sheet.notes.len() as f64).ceil();
+        sheet
+    }
+
+    /// The size of the smallest text of a vertex where the picture fills a page.
+    fn points(&self) -> f64 {
+        self.style.number * (PAGE[0] / self.width).min(PAGE[1] / self.height)
+    }
+
+    /// The middle of a vertex's circle.
+    pub fn x(&self, side: usize, u: usize) -> f64 {
+        let x = self.inward(self.layout.stand[side].indent[u]);
+        if side == RECORDED {
+            x
+        } else {
+            self.width - x
+        }
+    }
+
+    pub fn y(&self, side: usize, u: usize) -> f64 {
+        TOP + (self.layout.stand[side].row[u] as f64 - 0.5) * self.style.height
+    }
+
+    /// Where the rows end.
+    pub fn bottom(&self) -> f64 {
+        TOP + self.layout.rows as f64 * self.style.height
+    }
+
+    /// How far the middle of an indented circle is from the picture's edge.
+    fn inward(&self, indent: usize) -> f64 {
+        MARGIN + self.style.radius + indent as f64 * self.step
+    }
+
+    /// How far a vertex with its text is from the picture's edge.
+    pub fn reach(&self, side: usize, u: usize) -> f64 {
+        let text = widths::of(&self.texts[side][u], self.style.label);
+        (self.inward(self.layout.stand[side].indent[u]) + self.style.radius + BESIDE + text).ceil()
+    }
+
+    fn needed_width(&self) -> f64 {
+        let reaches = [RECORDED, FOUND].map(|side| self.reaches(side));
+        let widest = reaches[RECORDED].iter().zip(&reaches[FOUND]).map(|(r, f)| r + f).fold(0.0, f64::max);
+        (widest + self.style.gap).max(480.0)
+    }
+
+    /// How far the tree reaches in each row, with its lines.
+    fn reaches(&self, side: usize) -> Vec<f64> {
+        let stand = &self.layout.stand[side];
+        let mut reaches = vec![MARGIN; self.layout.rows + 1];
+        for &u in &stand.order {
+            let parent = self.layout.hung[side].rooted.parent[u].unwrap_or(u);
+            let (from, to) = (stand.row[u].min(stand.row[parent]), stand.row[u].max(stand.row[parent]));
+            let line = self.inward(stand.indent[parent]);
+            reaches[from..=to].iter_mut().for_each(|reach| *reach = reach.max(line));
+            reaches[stand.row[u]] = reaches[stand.row[u]].max(self.reach(side, u));
+        }
+        reaches
+    }
+}
+
+/// How far a child is indented: so far that the label of its edge has room, and further where the tree is not deep.
+fn step(answer: &Answer, layout: &Layout, style: &Style) -> f64 {
+    let both = || [RECORDED, FOUND].into_iter().flat_map(|side| layout.stand[side].order.iter().map(move |&u| (side, u)));
+    let deepest = both().map(|(side, u)| layout.stand[side].indent[u]).max().unwrap_or(0).max(1);
+    let labels = both().filter_map(|(side, u)| words::edge_label(answer, layout, side, u));
+    let widest = labels.map(|label| widths::bold(&label, style.edge)).fold(0.0, f64::max);
+    let least = (style.radius + 4.5 + widest).ceil();
+    (style.indent / deepest as f64).floor().min(style.largest_step).max(least)
+}

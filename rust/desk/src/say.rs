@@ -1,0 +1,102 @@
+//! A mapping in words, a line for each vertex: what is kept, changed, gone and new, and what is not certain.
+use crate::answer::{Answer, Certainty};
+use crate::changes::{counts, new_vertices, rows, Counts, Row, State};
+use crate::plant::{Tree, Weights};
+
+/// A vertex for people: number, name of its own if it has one, and label.
+pub fn vertex(tree: &Tree, labels: &Weights, u: usize) -> String {
+    let label = labels.called(tree.label(u));
+    match &tree.vertices[u].name {
+        Some(name) => format!("{u} {name} ({label})"),
+        None => format!("{u} {label}"),
+    }
+}
+
+fn recorded(answer: &Answer, u: usize) -> String {
+    format!("recorded {}", vertex(&answer.plant.recorded, &answer.plant.table.vertex, u))
+}
+
+fn found(answer: &Answer, v: usize) -> String {
+    format!("found {}", vertex(&answer.plant.found, &answer.plant.table.vertex, v))
+}
+
+pub fn say(answer: &Answer) -> String {
+    let mut rows = rows(answer);
+    let mut text = summary(answer, counts(answer, &rows));
+    rows.sort_by_key(|row| row.vertex);
+    for row in &rows {
+        text.push_str(&format!("{:<8} {}\n", row.state.word(), recorded_line(answer, row)));
+    }
+    for v in new_vertices(answer) {
+        text.push_str(&format!("{:<8} {}\n", State::New.word(), found_line(answer, v)));
+    }
+    text
+}
+
+fn summary(answer: &Answer, c: Counts) -> String {
+    let sure = match c.unsure {
+        0 => "all certain".to_owned(),
+        unsure => format!("{unsure} not certain"),
+    };
+    format!("weight {}: {} kept, {} changed, {} gone, {} new; {sure}\n\n", answer.weight, c.kept, c.changed, c.gone, c.new)
+}
+
+fn recorded_line(answer: &Answer, row: &Row) -> String {
+    let mut line = recorded(answer, row.vertex);
+    if let Some(v) = row.partner {
+        line += &format!(" is {}", found(answer, v));
+        line += &changes(answer, row, v);
+    }
+    line + &doubt(row.certain, |v| found(answer, v))
+}
+
+/// What differs between a vertex and its partner.
+fn changes(answer: &Answer, row: &Row, v: usize) -> String {
+    let table = &answer.plant.table;
+    let mut text = String::new();
+    if answer.label_changed(row.vertex, v) {
+        let (was, is) = (answer.plant.recorded.label(row.vertex), answer.plant.found.label(v));
+        text += &format!("; its label was {} and is {}", table.vertex.called(was), table.vertex.called(is));
+    }
+    match (row.parent, row.edge) {
+        (Some(parent), Some((was, is))) if was != is => {
+            let to = answer.plant.recorded.called(parent);
+            text += &format!("; its edge to {to} was {} and is {}", table.edge.called(was), table.edge.called(is));
+        }
+        _ => (),
+    }
+    text
+}
+
+fn found_line(answer: &Answer, v: usize) -> String {
+    let edge = |w: usize| {
+        let label = answer.found.edge(v, w).unwrap_or_default();
+        format!("{} by {}", vertex(&answer.plant.found, &answer.plant.table.vertex, w), answer.plant.table.edge.called(label))
+    };
+    let joined: Vec<String> = answer.found.neighbours(v).map(edge).collect();
+    let mut line = found(answer, v);
+    if !joined.is_empty() {
+        line += &format!(", joined to {}", joined.join(", "));
+    }
+    line + &doubt(answer.new_certain[v], |u| recorded(answer, u))
+}
+
+/// What another heaviest mapping says.
+fn doubt(certain: Certainty, called: impl Fn(usize) -> String) -> String {
+    match certain {
+        Certainty::Certain => String::new(),
+        Certainty::Otherwise(None) => "; NOT CERTAIN: as heavy without this pair".into(),
+        Certainty::Otherwise(Some(other)) => format!("; NOT CERTAIN: as heavy with {}", called(other)),
+        Certainty::Unknown => "; NOT KNOWN to be certain: the table has no room to ask".into(),
+    }
+}
+
+/// The lines that the match program prints.
+pub fn plain(answer: &Answer) -> String {
+    let mut text = format!("weight {}\n", answer.weight);
+    for (u, v) in answer.partner.iter().enumerate() {
+        let partner = v.map_or("-".to_owned(), |v| v.to_string());
+        text += &format!("{u} {partner}\n");
+    }
+    text
+}

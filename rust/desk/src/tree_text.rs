@@ -1,0 +1,144 @@
+//! Reading a tree's part of a plant's text: vertices with labels and perhaps names, and edges.
+use crate::plant::{Edge, Fault, Place, Table, Tree, Vertex};
+use crate::table_text::label_of;
+use crate::words::{is_digits, Line, Part, Word};
+
+/// A count of vertices is a byte.
+const VERTICES_WRITTEN: usize = 255;
+
+/// A tree while it is read; the ends of its edges may be names of vertices that follow.
+pub struct TreeText {
+    place: Place,
+    vertices: Vec<Vertex>,
+    edges: Vec<EdgeText>,
+}
+
+struct EdgeText {
+    ends: [(Part, Place); 2],
+    label: u8,
+    text: String,
+    place: Place,
+}
+
+impl TreeText {
+    /// The line that begins the tree: its word, and vertices.
+    pub fn begin(line: &Line, words: &[Word], table: &Table) -> Result<TreeText, Fault> {
+        let mut tree = TreeText { place: line.place(words[0].column), vertices: Vec::new(), edges: Vec::new() };
+        for &word in &words[1..] {
+            tree.read_vertex(line, word, table)?;
+        }
+        Ok(tree)
+    }
+
+    /// A further line of the tree: edges, and vertices with names.
+    pub fn read(&mut self, line: &Line, words: &[Word], table: &Table) -> Result<(), Fault> {
+        for &word in words {
+            let parts = line.parts(word, &['=', '-', ':'])?;
+            if parts[0].1 == Some('=') {
+                self.read_vertex(line, word, table)?;
+            } else {
+                self.read_edge(line, word, table)?;
+            }
+        }
+        Ok(())
+    }
+
+    /// `LABEL` or `NAME=LABEL`.
+    fn read_vertex(&mut self, line: &Line, word: Word, table: &Table) -> Result<(), Fault> {
+        let mut parts = line.parts(word, &['='])?;
+        if parts.len() > 2 {
+            return line.fault(word.column, format!("a vertex is a label, or a name and a label as P1=2, not `{}`", word.text));
+        }
+        if self.vertices.len() == VERTICES_WRITTEN {
+            return line.fault(word.column, format!("more than {VERTICES_WRITTEN} vertices"));
+        }
+        let label = parts.pop().map(|(part, _)| part);
+        let name = parts.pop().map(|(part, _)| part);
+        let label = label.map_or(Ok(0), |part| label_of(&part, &line.place(part.column), "vertex", &table.vertex.names))?;
+        let name = name.map_or(Ok(None), |part| self.new_name(line, part).map(Some))?;
+        self.vertices.push(Vertex { label, name, place: line.place(word.column) });
+        Ok(())
+    }
+
+    /// A vertex's name, which no other has and which is no number.
+    fn new_name(&self, line: &Line, part: Part) -> Result<String, Fault> {
+        if is_digits(&part.text) {
+            return line.fault(part.column, format!("a vertex's name is no number, and `{}` is one", part.text));
+        }
+        if !part.quoted && part.text.contains(['-', ':', ',']) {
+            return line.fault(part.column, format!("a name with `-`, `:` or `,` stands in quotes, as \"{}\"", part.text));
+        }
+        match self.number_of(&part.text) {
+            Some(other) => line.fault(part.column, format!("vertex {other} is named `{}` already", part.text)),
+            None => Ok(part.text),
+        }
+    }
+
+    fn number_of(&self, name: &str) -> Option<u8> {
+        let at = self.vertices.iter().position(|vertex| vertex.name.as_deref() == Some(name));
+        at.map(|at| at as u8)
+    }
+
+    /// `END-END` or `END-END:LABEL`.
+    fn read_edge(&mut self, line: &Line, word: Word, table: &Table) -> Result<(), Fault> {
+        let shape = || line.fault(word.column, format!("an edge is two vertices and a label, as 0-1 or 0-1:2, not `{}`", word.text));
+        let (ends, label) = match word_label(word.text) {
+            Some(at) => (&word.text[..at], Some(&word.text[at + 1..])),
+            None => (word.text, None),
+        };
+        let mut parts = line.parts(Word { text: ends, column: word.column }, &['-'])?;
+        if parts.len() != 2 {
+            return shape();
+        }
+        let mut label_number = 0;
+        if let Some(text) = label {
+            let column = word.column + ends.chars().count() + 1;
+            let part = line.parts(Word { text, column }, &[])?.remove(0).0;
+            label_number = label_of(&part, &line.place(column), "edge", &table.edge.names)?;
+        }
+        let end = |(part, _): (Part, Option<char>)| (line.place(part.column), part);
+        let ((second_at, second), (first_at, first)) = (end(parts.remove(1)), end(parts.remove(0)));
+        let ends = [(first, first_at), (second, second_at)];
+        self.edges.push(EdgeText { ends, label: label_number, text: word.text.into(), place: line.place(word.column) });
+        Ok(())
+    }
+
+    /// The whole tree, its edges' ends found by their names.
+    pub fn finish(self) -> Result<Tree, Fault> {
+        let mut edges = Vec::new();
+        for edge in &self.edges {
+            let ends = [self.end(&edge.ends[0])?, self.end(&edge.ends[1])?];
+            edges.push(Edge { ends, label: edge.label, text: edge.text.clone(), place: edge.place.clone() });
+        }
+        Ok(Tree { vertices: self.vertices, edges, place: self.place })
+    }
+
+    fn end(&self, (part, place): &(Part, Place)) -> Result<u8, Fault> {
+        let fault = |reason| Err(Fault { place: place.clone(), reason });
+        if part.is_number() {
+            return match part.byte() {
+                Some(vertex) => Ok(vertex),
+                None => fault(format!("a vertex is a number from 0 to 255 or a name, not `{}`", part.text)),
+            };
+        }
+        match self.number_of(&part.text) {
+            Some(vertex) => Ok(vertex),
+            None => fault(format!("no vertex of this tree is named `{}`", part.text)),
+        }
+    }
+}
+
+/// Where the colon before an edge's label stands, if there is one outside quotes.
+fn word_label(word: &str) -> Option<usize> {
+    let (mut quoted, mut escaped) = (false, false);
+    for (at, c) in word.char_indices() {
+        if c == ':' && !quoted {
+            return Some(at);
+        }
+        if c == '"' && !escaped {
+            quoted = !quoted;
+        }
+        escaped = quoted && c == '\\' && !escaped;
+    }
+    None
+}

@@ -1,0 +1,208 @@
+//! Holds what is written twice against the crate: the constants of include/pensummer.h, the sentences of office/items.c, and the items and the bytes of
+//! docs/FORMAT.md.
+use pensummer::Refusal;
+use std::collections::BTreeMap;
+use std::fs;
+use std::path::Path;
+
+/// The items by the names of their constants.
+macro_rules! named {
+    ($($name:ident)*) => { [$((stringify!($name), Refusal::$name)),*] };
+}
+
+const ITEMS: [(&str, Refusal); 24] = named! {
+    TABLE_FORM TABLE_WEIGHT
+    RECORDED_FORM RECORDED_LABEL RECORDED_END RECORDED_LOOP RECORDED_DEGREE
+    FOUND_FORM FOUND_LABEL FOUND_END FOUND_LOOP FOUND_DEGREE
+    WORK_SHORT JOB_RECORD JOB_TREES WORK_NUMBER JOB_UNFINISHED MAPPING_SHORT
+    CERTIFICATE_SHORT CERTIFICATE_FORM CERTIFICATE_MAPPING CERTIFICATE_WEIGHT CERTIFICATE_RECORD CERTIFICATE_ANSWER
+};
+
+const LIMITS: [(&str, i64); 11] = [
+    ("VERTICES_MOST", pensummer::VERTICES_MOST as i64),
+    ("DEGREE_MOST", pensummer::DEGREE_MOST as i64),
+    ("VERTEX_LABELS_MOST", pensummer::VERTEX_LABELS_MOST as i64),
+    ("EDGE_LABELS_MOST", pensummer::EDGE_LABELS_MOST as i64),
+    ("WEIGHT_MOST", pensummer::WEIGHT_MOST as i64),
+    ("FORBIDDEN", pensummer::FORBIDDEN as i64),
+    ("NONE", pensummer::NONE as i64),
+    ("TABLE_MOST", pensummer::TABLE_MOST as i64),
+    ("TREE_MOST", pensummer::TREE_MOST as i64),
+    ("WORK_MOST", pensummer::WORK_MOST as i64),
+    ("CERTIFICATE_MOST", pensummer::CERTIFICATE_MOST as i64),
+];
+
+/// The text of a file of the repository.
+fn text(name: &str) -> String {
+    let path = Path::new(env!("CARGO_MANIFEST_DIR")).join("../..").join(name);
+    fs::read_to_string(&path).unwrap_or_else(|why| panic!("{}: {why}", path.display()))
+}
+
+/// The constants of the header that have a value, by their names without `PENSUMMER_`, in the order of the text.
+fn defined() -> Vec<(String, String)> {
+    let header = text("include/pensummer.h").replace("\\\n", " ");
+    let lines = header.lines().filter_map(|line| line.strip_prefix("#define "));
+    let parts = lines.filter_map(|line| line.split_once(' '));
+    parts.map(|(name, value)| (name.strip_prefix("PENSUMMER_").expect(name).to_string(), value.to_string())).collect()
+}
+
+/// The value of an expression of numbers, names, `+`, `-`, `*` and parentheses.
+struct Expression<'a> {
+    rest: &'a str,
+    known: &'a BTreeMap<String, i64>,
+}
+
+impl Expression<'_> {
+    fn next_is(&mut self, sign: char) -> bool {
+        self.rest = self.rest.trim_start();
+        let after = self.rest.strip_prefix(sign);
+        self.rest = after.unwrap_or(self.rest);
+        after.is_some()
+    }
+
+    fn sum(&mut self) -> i64 {
+        let mut value = self.product();
+        loop {
+            if self.next_is('+') {
+                value += self.product();
+            } else if self.next_is('-') {
+                value -= self.product();
+            } else {
+                return value;
+            }
+        }
+    }
+
+    fn product(&mut self) -> i64 {
+        let mut value = self.factor();
+        while self.next_is('*') {
+            value *= self.factor();
+        }
+        value
+    }
+
+    fn factor(&mut self) -> i64 {
+        if self.next_is('-') {
+            return -self.factor();
+        }
+        if self.next_is('(') {
+            let value = self.sum();
+            assert!(self.next_is(')'), "no `)` before `{}`", self.rest);
+            return value;
+        }
+        let end = self.rest.find(|c: char| !c.is_ascii_alphanumeric() && c != '_').unwrap_or(self.rest.len());
+        let (word, rest) = self.rest.split_at(end);
+        self.rest = rest;
+        match word.strip_prefix("PENSUMMER_") {
+            Some(name) => *self.known.get(name).unwrap_or_else(|| panic!("{name} is used before it is defined")),
+            None => word.parse().unwrap_or_else(|_| panic!("`{word}` is no number")),
+        }
+    }
+}
+
+/// The header's constants with their values.
+fn values() -> BTreeMap<String, i64> {
+    let mut known = BTreeMap::new();
+    for (name, value) in defined() {
+        let mut expression = Expression { rest: &value, known: &known };
+        let number = expression.sum();
+        assert_eq!(expression.rest.trim(), "", "{name}: {value}");
+        assert_eq!(known.insert(name.clone(), number), None, "{name} is defined twice");
+    }
+    known
+}
+
+#[test]
+fn every_item_has_its_name_here() {
+    assert_eq!(ITEMS.map(|(_, item)| item), Refusal::ALL);
+    assert_eq!(Refusal::ALL.map(Refusal::number).to_vec(), (1..=24).collect::<Vec<u32>>());
+}
+
+#[test]
+fn every_item_has_its_sentence() {
+    let none = Refusal::of(25).unwrap().sentence();
+    let mut sentences: Vec<&str> = Refusal::ALL.map(Refusal::sentence).to_vec();
+    assert!(sentences.iter().all(|sentence| *sentence != none && !sentence.is_empty() && !sentence.ends_with('.')));
+    sentences.sort();
+    sentences.dedup();
+    assert_eq!(sentences.len(), 24);
+}
+
+/// The header has exactly the crate's limits and items, with their values.
+#[test]
+fn header() {
+    let items = ITEMS.iter().map(|&(name, item)| (name.to_string(), item.number() as i64));
+    let limits = LIMITS.iter().map(|&(name, value)| (name.to_string(), value));
+    assert_eq!(values(), items.chain(limits).collect());
+}
+
+/// The most bytes of a certificate by its formula, with the squares of degrees of a tree of the most vertices: as many of the greatest degree as the sum
+/// of all degrees allows, then one of what is left.
+#[test]
+fn longest_certificate() {
+    let (n, degree) = (pensummer::VERTICES_MOST, pensummer::DEGREE_MOST);
+    let over = n - 2; // the sum of all degrees is 2(n - 1), and each is 1 at least
+    let (full, left) = (over / (degree - 1), over % (degree - 1) + 1);
+    let squares = full * degree * degree + left * left + (n - full - 1);
+    assert_eq!(pensummer::CERTIFICATE_MOST, 8 + 3 * n + 6 * n * (3 * n - 2) + 4 * (n - 1) * (3 * n - 2) + 4 * n * squares);
+}
+
+/// The C programs of the office say the crate's sentences: a line `[PENSUMMER_NAME] = "sentence",` for each item, in order.
+#[test]
+fn office_sentences() {
+    let source = text("office/items.c");
+    let lines: Vec<&str> = source.lines().map(str::trim).filter(|line| line.starts_with('[')).collect();
+    let ours: Vec<String> = ITEMS.iter().map(|(name, item)| format!("[PENSUMMER_{name}] = \"{}\",", item.sentence())).collect();
+    assert_eq!(lines, ours);
+}
+
+/// The rows of docs/FORMAT.md on the items begin with the number, the name in C, the name in Rust and the sentence.
+#[test]
+fn format_items() {
+    let format = text("docs/FORMAT.md");
+    let rows: Vec<&str> = format.lines().filter(|line| line.contains("| `Refusal::")).collect();
+    assert_eq!(rows.len(), ITEMS.len());
+    for (row, (name, item)) in rows.iter().zip(ITEMS) {
+        let start = format!("| {} | `PENSUMMER_{name}` | `Refusal::{name}` | {} | ", item.number(), item.sentence());
+        assert!(row.starts_with(&start), "{row}\nnot\n{start}");
+    }
+}
+
+/// The bytes of the tables of docs/FORMAT.md whose columns are offset, bytes and meaning; each offset is where its bytes stand.
+fn listed() -> Vec<Vec<u8>> {
+    let mut parts: Vec<Vec<u8>> = Vec::new();
+    let mut inside = false;
+    for line in text("docs/FORMAT.md").lines() {
+        let cells: Vec<&str> = line.split('|').map(str::trim).collect();
+        if cells.len() < 4 {
+            inside = false;
+        } else if cells[1..3] == ["offset", "bytes"] {
+            inside = true;
+            parts.push(Vec::new());
+        } else if inside && !cells[1].starts_with('-') {
+            let part = parts.last_mut().unwrap();
+            assert_eq!(cells[1].parse(), Ok(part.len()), "{line}");
+            let hex = cells[2].trim_matches('`').split(' ');
+            part.extend(hex.map(|byte| u8::from_str_radix(byte, 16).expect(line)));
+        }
+    }
+    parts
+}
+
+/// The example of docs/FORMAT.md is the match program's input, and its certificate is the one that is written.
+#[test]
+fn format_bytes() {
+    let parts = listed();
+    let [table, recorded, found, certificate] = &parts[..] else { panic!("{} lists of bytes", parts.len()) };
+    let input = fs::read(Path::new(env!("CARGO_MANIFEST_DIR")).join("../../crates/matcher/stdin")).unwrap();
+    assert_eq!([&table[..], recorded, found].concat(), input);
+    let i = pensummer::Inputs { table, recorded, found };
+    let (mut work, mut room) = ([0; 8], [0; 94]);
+    assert_eq!(pensummer::write_certificate(i, &mut work, &mut room), Ok(94));
+    assert_eq!(&room[..], &certificate[..]);
+    assert_eq!(work, [3, 3, -2, -2, -2, -2, 9, 5]);
+    assert_eq!(pensummer::check_certificate(i, certificate), Ok(()));
+    let mut mapping = [0; 2];
+    assert_eq!(pensummer::match_trees(i, &mut work, &mut mapping), Ok(9));
+    assert_eq!(mapping, [1, 0]);
+}
