@@ -97,7 +97,11 @@ fn weigh(p: &Plan, mapping: &[u8]) -> Option<i64> {
         }
         sum += e as i64;
     }
-    if tops > 1 { None } else { Some(sum) }
+    if tops > 1 {
+        None
+    } else {
+        Some(sum)
+    }
 }
 
 /// 0 for accepted, or the first of the items 1 to 12 and 20 to 24 that applies.
@@ -118,7 +122,13 @@ pub fn check(table: &[u8], recorded: &[u8], found: &[u8], z: &[u8]) -> u32 {
         mapping[u] = z[10 + 3 * u];
     }
     // where each row's records begin, and where v's begin within one: by the number of u's children
-    let squares: Vec<usize> = p.f.degree[..p.f.n].iter().scan(0, |s, d| { *s += d * d; Some(*s - d * d) }).collect();
+    let squares: Vec<usize> = p.f.degree[..p.f.n]
+        .iter()
+        .scan(0, |s, d| {
+            *s += d * d;
+            Some(*s - d * d)
+        })
+        .collect();
     let total: usize = p.f.degree[..p.f.n].iter().map(|d| d * d).sum();
     let (mut rows, mut sizes, mut at) = ([0; 64], [0; 64], 8 + 3 * p.r.n);
     for (i, &u) in p.order[..p.r.n].iter().enumerate() {
@@ -200,5 +210,9 @@ pub fn check(table: &[u8], recorded: &[u8], found: &[u8], z: &[u8]) -> u32 {
             }
         }
     }
-    if weight == largest { 0 } else { 24 }
+    if weight == largest {
+        0
+    } else {
+        24
+    }
 }

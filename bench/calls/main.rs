@@ -141,7 +141,12 @@ fn main() {
     }
     let deep = [equal_paths()];
     for call in 0..CALLS.len() {
-        println!("equal paths, 64 by 64    {:<6} stack {} and {}", CALLS[call], stack_used(call, &deep, by_plain), stack_used(call, &deep, by_proved));
+        println!(
+            "equal paths, 64 by 64    {:<6} stack {} and {}",
+            CALLS[call],
+            stack_used(call, &deep, by_plain),
+            stack_used(call, &deep, by_proved)
+        );
     }
     let lines: Vec<String> = CALLS.iter().zip(worst).map(|(c, w)| format!("{c} {w:.2}")).collect();
     println!("worst ratios: {}", lines.join(", "));

@@ -84,7 +84,9 @@ pub fn read_tree(b: &[u8], t: &Table, item: u32) -> Result<Tree, u32> {
         return Err(item);
     }
     let lines = 3 + 3 * n;
-    if (0..n).any(|v| b[3 + 3 * v] != 0xB1 || b[4 + 3 * v] != 2) || (0..n - 1).any(|e| b[lines + 5 * e] != 0xB1 || b[lines + 5 * e + 1] != 3) {
+    if (0..n).any(|v| b[3 + 3 * v] != 0xB1 || b[4 + 3 * v] != 2)
+        || (0..n - 1).any(|e| b[lines + 5 * e] != 0xB1 || b[lines + 5 * e + 1] != 3)
+    {
         return Err(item);
     }
     if (0..n).any(|v| b[5 + 3 * v] as usize >= t.kinds) || (0..n - 1).any(|e| b[lines + 5 * e + 4] as usize >= t.edge_kinds) {
@@ -330,7 +332,11 @@ pub fn duals(g: &[[i64; 8]; 8], k: usize, d: usize, out: usize) -> ([i64; 8], [i
     for j in 0..columns {
         z[j] = -v[j + 1] - lift;
     }
-    if turned { (z, y) } else { (y, z) }
+    if turned {
+        (z, y)
+    } else {
+        (y, z)
+    }
 }
 
 /// The children of u: edge label, where their values begin, and the vertex.

@@ -18,7 +18,11 @@ impl Random {
 
     /// A weight, forbidden once in `rare`.
     fn weight(&mut self, rare: usize) -> i32 {
-        if self.below(rare) == 0 { i32::MIN } else { self.below(1_600_001) as i32 - 600_000 }
+        if self.below(rare) == 0 {
+            i32::MIN
+        } else {
+            self.below(1_600_001) as i32 - 600_000
+        }
     }
 }
 

@@ -7,7 +7,12 @@ const STACK: usize = 1 << 20;
 extern "C" {
     fn pthread_attr_init(attr: *mut [u64; 16]) -> i32;
     fn pthread_attr_setstack(attr: *mut [u64; 16], stack: *mut c_void, size: usize) -> i32;
-    fn pthread_create(thread: *mut usize, attr: *const [u64; 16], start: extern "C" fn(*mut c_void) -> *mut c_void, argument: *mut c_void) -> i32;
+    fn pthread_create(
+        thread: *mut usize,
+        attr: *const [u64; 16],
+        start: extern "C" fn(*mut c_void) -> *mut c_void,
+        argument: *mut c_void,
+    ) -> i32;
     fn pthread_join(thread: usize, result: *mut *mut c_void) -> i32;
 }
 

@@ -34,7 +34,9 @@ fn made(root: &Path) -> PathBuf {
     match Command::new(&script).stdin(Stdio::null()).status() {
         Ok(status) if status.success() => root.join("target/staticlib"),
         Ok(_) => give_up("the archive could not be made; what tools/archive said stands above"),
-        Err(why) => give_up(&format!("cannot run {}: {why}; PENSUMMER_ARCHIVE may name a folder that has libpensummer.a", script.display())),
+        Err(why) => {
+            give_up(&format!("cannot run {}: {why}; PENSUMMER_ARCHIVE may name a folder that has libpensummer.a", script.display()))
+        }
     }
 }
 

@@ -85,7 +85,16 @@ impl<'a> Answer<'a> {
             }
         }
         let (recorded, found) = (Graph::of(&plant.recorded), Graph::of(&plant.found));
-        Answer { plant, recorded, found, weight, partner, back, certain: vec![Certainty::Unknown; n], new_certain: vec![Certainty::Unknown; m] }
+        Answer {
+            plant,
+            recorded,
+            found,
+            weight,
+            partner,
+            back,
+            certain: vec![Certainty::Unknown; n],
+            new_certain: vec![Certainty::Unknown; m],
+        }
     }
 
     /// The pairs, by the recorded vertex.

@@ -105,7 +105,11 @@ impl Question {
         asked.table.vertex.rows = self.weights.clone();
         relabel(&mut asked.recorded, &self.recorded);
         relabel(&mut asked.found, &self.found);
-        let bytes = Bytes { recorded: tree_bytes(&asked.recorded), found: tree_bytes(&asked.found), table: crate::bytes::table_bytes(&asked.table) };
+        let bytes = Bytes {
+            recorded: tree_bytes(&asked.recorded),
+            found: tree_bytes(&asked.found),
+            table: crate::bytes::table_bytes(&asked.table),
+        };
         heaviest(&bytes).ok()
     }
 }

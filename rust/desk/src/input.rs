@@ -35,7 +35,10 @@ impl Input {
             let file: Rc<str> = name.as_str().into();
             if bytes.len() > INPUT_MOST {
                 let place = Place { file, at: At::Byte(INPUT_MOST) };
-                return Err(Unread::Fault(Fault { place, reason: format!("this file goes on after {INPUT_MOST} bytes, and no plant does") }));
+                return Err(Unread::Fault(Fault {
+                    place,
+                    reason: format!("this file goes on after {INPUT_MOST} bytes, and no plant does"),
+                }));
             }
             texts.push(Text { file, bytes });
         }
@@ -46,7 +49,10 @@ impl Input {
         match texts.iter().find(|text| !bytes::begins(&text.bytes)) {
             Some(text) => {
                 let place = Place { file: text.file.clone(), at: At::Byte(0) };
-                Err(Unread::Fault(Fault { place, reason: "this does not begin with B1, a byte of every mark, and another file does".into() }))
+                Err(Unread::Fault(Fault {
+                    place,
+                    reason: "this does not begin with B1, a byte of every mark, and another file does".into(),
+                }))
             }
             None => Ok(Input::of_bytes(&texts)),
         }

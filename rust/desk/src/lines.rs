@@ -15,7 +15,8 @@ pub fn each_line(file: &Rc<str>, bytes: &[u8], mut each: impl FnMut(&Line) -> Re
     for (number, line) in (1..).zip(bytes.split_inclusive(|&b| b == b'\n')) {
         let line = line.strip_suffix(b"\n").unwrap_or(line);
         let line = line.strip_suffix(b"\r").unwrap_or(line);
-        let text = text_of(without_comment(line)).map_err(|(column, reason)| Fault { place: place(number, column), reason: reason.into() })?;
+        let text =
+            text_of(without_comment(line)).map_err(|(column, reason)| Fault { place: place(number, column), reason: reason.into() })?;
         end = place(number, text.chars().count() + 1);
         if text.chars().any(|c| !is_blank(c)) {
             each(&Line { file, number, text })?;

@@ -12,7 +12,8 @@ pub fn listing(answer: &Answer) -> String {
     let edges = answer.edges_sum();
     let mapped = answer.mapped_edges().count();
     let vertices = answer.weight - edges;
-    let mut text = format!("weight {}: vertex pairs {pairs}, weighing {vertices}; edge pairs {mapped}, weighing {edges}\n\n", answer.weight);
+    let mut text =
+        format!("weight {}: vertex pairs {pairs}, weighing {vertices}; edge pairs {mapped}, weighing {edges}\n\n", answer.weight);
     let mut table = vec![HEAD.map(str::to_owned)];
     table.extend(rows.iter().map(|row| cells(answer, row)));
     text += &aligned(&table);

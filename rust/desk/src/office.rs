@@ -15,8 +15,8 @@ type Done = Result<(), Failure>;
 pub fn write(call: &Call, input: &Input) -> Done {
     let output = call.output.as_deref().unwrap_or("-");
     let (mut work, mut bytes) = (vec![0; WORK_MOST], vec![0; CERTIFICATE_MOST]);
-    let length =
-        pensummer::write_certificate(input.bytes.inputs(), &mut work, &mut bytes).map_err(|refusal| Failure::Refused(input.refused(refusal)))?;
+    let length = pensummer::write_certificate(input.bytes.inputs(), &mut work, &mut bytes)
+        .map_err(|refusal| Failure::Refused(input.refused(refusal)))?;
     bytes.truncate(length);
     files::write(output, &bytes)?;
     let plant = input.accepted()?;

@@ -61,11 +61,8 @@ pub fn run(call: &Call) -> Done {
 fn with_answer(call: &Call, input: &Input, words: impl Fn(&Answer) -> String) -> Done {
     let plant = input.accepted()?;
     let answer = answer(call, input, plant)?;
-    let text = if call.json {
-        Report { command: call.command.name, answer: Some(&answer), ..Report::default() }.json()
-    } else {
-        words(&answer)
-    };
+    let text =
+        if call.json { Report { command: call.command.name, answer: Some(&answer), ..Report::default() }.json() } else { words(&answer) };
     Ok(files::write(call.output.as_deref().unwrap_or("-"), text.as_bytes())?)
 }
 
@@ -115,4 +112,3 @@ fn write_text(call: &Call, input: &Input) -> Done {
         },
     }
 }
-

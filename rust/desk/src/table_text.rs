@@ -95,7 +95,8 @@ impl Labels {
     /// A line `KIND-default W`, `KIND-equal W` or `KIND-pair A B W`.
     fn read_short(&mut self, line: &Line, words: &[Word], what: &str) -> Result<(), Fault> {
         if !self.rows.is_empty() {
-            return line.fault(words[0].column, format!("rows of `{}` weights stand already; a short form does not stand beside", self.kind));
+            return line
+                .fault(words[0].column, format!("rows of `{}` weights stand already; a short form does not stand beside", self.kind));
         }
         if what == "pair" {
             return self.read_pair(line, words);
@@ -147,7 +148,9 @@ impl Labels {
     fn short_rows(&self, end: &Place, names: &[String]) -> Result<Vec<Vec<(i32, Place)>>, Fault> {
         let default = match &self.default {
             Some(weight) => weight,
-            None => return Err(Fault { place: end.clone(), reason: format!("`{0}-equal` and `{0}-pair` want a `{0}-default`", self.kind) }),
+            None => {
+                return Err(Fault { place: end.clone(), reason: format!("`{0}-equal` and `{0}-pair` want a `{0}-default`", self.kind) })
+            }
         };
         let mut rows = vec![vec![default.clone(); self.count]; self.count];
         if let Some(equal) = &self.equal {

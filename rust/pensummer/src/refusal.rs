@@ -76,4 +76,3 @@ impl fmt::Display for Refusal {
         write!(f, "refused {}: {}", self.0, self.sentence())
     }
 }
-

@@ -193,7 +193,8 @@ fn listed() -> Vec<Vec<u8>> {
 #[test]
 fn format_bytes() {
     let parts = listed();
-    let [table, recorded, found, certificate] = &parts[..] else { panic!("{} lists of bytes", parts.len()) };
+    assert_eq!(parts.len(), 4, "lists of bytes");
+    let (table, recorded, found, certificate) = (&parts[0], &parts[1], &parts[2], &parts[3]);
     let input = fs::read(Path::new(env!("CARGO_MANIFEST_DIR")).join("../../crates/matcher/stdin")).unwrap();
     assert_eq!([&table[..], recorded, found].concat(), input);
     let i = pensummer::Inputs { table, recorded, found };

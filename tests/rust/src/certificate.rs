@@ -101,8 +101,9 @@ fn rule_holds(plant: &Plant, order: &Order, records: &[Record], certificate: &[u
     let Subproblem { u, v, .. } = record.of;
     let value = number_at(certificate, record.value_at());
     let duals: Vec<i64> = (0..record.duals()).map(|dual| number_at(certificate, record.dual_at(dual)) as i64).collect();
-    let Some(own) = plant.pair(u, v) else {
-        return value == FORBIDDEN && duals.iter().all(|&dual| dual == 0);
+    let own = match plant.pair(u, v) {
+        Some(own) => own,
+        None => return value == FORBIDDEN && duals.iter().all(|&dual| dual == 0),
     };
     if duals.iter().any(|&dual| dual < 0) || value as i64 != own as i64 + duals.iter().sum::<i64>() {
         return false;

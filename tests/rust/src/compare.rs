@@ -63,7 +63,8 @@ fn junk_bytes(room: usize, random: &mut Random) -> Lent<u8> {
 
 /// Has the compiler look at this memory again after a call; of what is lent to be read only it could take for granted that it stays.
 fn look_again<T>(lent: &mut T) {
-    std::hint::black_box(lent);
+    // SAFETY: no instruction; it only stands for one that may read and write what the pointer leads to
+    unsafe { std::arch::asm!("/* {0} */", in(reg) lent as *mut T, options(nostack, preserves_flags)) };
 }
 
 /// A plant with all that the comparison needs of it.

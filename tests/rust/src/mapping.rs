@@ -7,7 +7,10 @@ pub const NONE: u8 = 255;
 
 /// Whether the vertices are connected within themselves; no vertex at all is.
 fn connected(tree: &Tree, vertices: &[usize]) -> bool {
-    let Some(&first) = vertices.first() else { return true };
+    let first = match vertices.first() {
+        Some(&first) => first,
+        None => return true,
+    };
     let mut reached = vec![first];
     let mut next = 0;
     while next < reached.len() {

@@ -97,7 +97,10 @@ pub fn heaviest_matching(gains: &[Vec<Option<i64>>], columns: usize) -> i64 {
 
 /// The value of a subproblem over any work numbers before its place.
 pub fn value(plant: &Plant, order: &Order, work: &[i32], of: Subproblem) -> i32 {
-    let Some(own) = plant.pair(of.u, of.v) else { return FORBIDDEN };
+    let own = match plant.pair(of.u, of.v) {
+        Some(own) => own,
+        None => return FORBIDDEN,
+    };
     let columns = columns(plant, of);
     let gains: Vec<Vec<Option<i64>>> = order.children[of.u]
         .iter()

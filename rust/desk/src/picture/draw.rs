@@ -139,7 +139,8 @@ fn edge_labels(sheet: &Sheet, side: usize) -> String {
     let mut texts = String::new();
     for (u, _) in edges(sheet, side) {
         let straight = sheet.layout.stand[side].straight[u];
-        let (away, up) = if straight { (0.7 * style.radius, style.height / 2.0 - 0.36 * style.edge) } else { (style.radius + 2.0, style.lift) };
+        let (away, up) =
+            if straight { (0.7 * style.radius, style.height / 2.0 - 0.36 * style.edge) } else { (style.radius + 2.0, style.lift) };
         let (x, y) = (sheet.x(side, u) - sign(side) * away, sheet.y(side, u) - up);
         let bold = if words::is_changed(&sheet.layout, side, u) { " font-weight=\"bold\"" } else { "" };
         if let Some(label) = words::edge_label(sheet.answer, &sheet.layout, side, u) {

@@ -82,8 +82,7 @@ pub fn title(answer: &Answer, layout: &Layout, side: usize, u: usize) -> String 
 
 /// The pairs, for those who cannot see the picture.
 pub fn description(answer: &Answer) -> String {
-    let pairs: Vec<String> =
-        answer.partner.iter().enumerate().filter_map(|(u, mate)| mate.map(|v| format!("{u} with {v}"))).collect();
+    let pairs: Vec<String> = answer.partner.iter().enumerate().filter_map(|(u, mate)| mate.map(|v| format!("{u} with {v}"))).collect();
     let pairs = if pairs.is_empty() { "none".to_string() } else { pairs.join(", ") };
     format!(
         "The recorded tree (vertices: {}) on the left, the found tree (vertices: {}) on the right. Partners, recorded with found: {pairs}.",
@@ -114,7 +113,9 @@ pub fn legend(answer: &Answer, layout: &Layout) -> Vec<String> {
         legend.push(edges(answer));
     }
     if (0..answer.partner.len()).any(|u| is_changed(layout, RECORDED, u)) {
-        legend.push("Edges drawn thick and dashed, with ! at their label: mapped neighbours whose partners' edge has another label.".to_string());
+        legend.push(
+            "Edges drawn thick and dashed, with ! at their label: mapped neighbours whose partners' edge has another label.".to_string(),
+        );
     }
     legend.extend(doubts(answer));
     if layout.stand.iter().any(|stand| stand.folded.contains(&true)) {
