@@ -30,8 +30,8 @@ pub struct Answer<'a> {
     pub back: Vec<Option<usize>>,
     /// Of each recorded vertex whether that is certain.
     pub certain: Vec<Certainty>,
-    /// Of each found vertex without a partner whether that is certain; `Certain` for the others.
-    pub new_certain: Vec<Certainty>,
+    /// Of each found vertex likewise; of a pair either both are certain or neither is.
+    pub found_certain: Vec<Certainty>,
 }
 
 /// The match in one call: the weight, and the partners.
@@ -93,7 +93,7 @@ impl<'a> Answer<'a> {
             partner,
             back,
             certain: vec![Certainty::Unknown; n],
-            new_certain: vec![Certainty::Unknown; m],
+            found_certain: vec![Certainty::Unknown; m],
         }
     }
 

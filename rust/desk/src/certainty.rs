@@ -9,28 +9,34 @@ use pensummer::{FORBIDDEN, VERTEX_LABELS_MOST, WEIGHT_MOST};
 pub fn ask(answer: &mut Answer) {
     let plant = answer.plant;
     for u in 0..answer.partner.len() {
-        answer.certain[u] = match answer.partner[u] {
-            Some(v) => without_pair(plant, answer.weight, u, v),
-            None => with_recorded(plant, answer.weight, u),
-        };
+        match answer.partner[u] {
+            Some(v) => (answer.certain[u], answer.found_certain[v]) = without_pair(plant, answer.weight, u, v),
+            None => answer.certain[u] = with_recorded(plant, answer.weight, u),
+        }
     }
     for v in 0..answer.back.len() {
-        answer.new_certain[v] = match answer.back[v] {
-            Some(_) => Certainty::Certain,
-            None => with_found(plant, answer.weight, v),
-        };
+        if answer.back[v].is_none() {
+            answer.found_certain[v] = with_found(plant, answer.weight, v);
+        }
     }
 }
 
-/// Is there a mapping as heavy without this pair?
-fn without_pair(plant: &Plant, weight: i64, u: usize, v: usize) -> Certainty {
+/// Is there a mapping as heavy without this pair? Of either vertex.
+fn without_pair(plant: &Plant, weight: i64, u: usize, v: usize) -> (Certainty, Certainty) {
     let mut question = Question::about(plant, Some(u), Some(v));
     question.weights[question.recorded[u]][question.found[v]] = FORBIDDEN;
     match question.answer(plant) {
-        None => Certainty::Unknown,
-        Some((best, partner)) if i64::from(best) == weight => Certainty::Otherwise(partner[u]),
-        Some(_) => Certainty::Certain,
+        None => (Certainty::Unknown, Certainty::Unknown),
+        Some((best, partner)) if i64::from(best) == weight => {
+            (Certainty::Otherwise(partner[u]), Certainty::Otherwise(recorded_with(&partner, v)))
+        }
+        Some(_) => (Certainty::Certain, Certainty::Certain),
     }
+}
+
+/// The recorded vertex whose partner is v.
+fn recorded_with(partner: &[Option<usize>], v: usize) -> Option<usize> {
+    partner.iter().position(|&w| w == Some(v))
 }
 
 /// Is there a mapping as heavy that has recorded u?
@@ -48,7 +54,7 @@ fn with_found(plant: &Plant, weight: i64, v: usize) -> Certainty {
     let column = question.found[v];
     let raised = question.recorded.clone().into_iter().map(|row| (row, column));
     let whole = question.raise(raised);
-    question.raised(plant, weight, whole, |partner| partner.iter().position(|&w| w == Some(v)))
+    question.raised(plant, weight, whole, |partner| recorded_with(partner, v))
 }
 
 /// A plant like another, but with labels that occur only, and with labels of their own for the vertices in question.

@@ -71,12 +71,13 @@ pub struct Counts {
 
 pub fn counts(answer: &Answer, rows: &[Row]) -> Counts {
     let of = |state| rows.iter().filter(|row| row.state == state).count();
-    let unsure = |all: &[Certainty]| all.iter().filter(|&&certain| certain != Certainty::Certain).count();
+    let unsure = |certain: Certainty| certain != Certainty::Certain;
     Counts {
         kept: of(State::Kept),
         changed: of(State::Changed),
         gone: of(State::Gone),
         new: new_vertices(answer).count(),
-        unsure: unsure(&answer.certain) + unsure(&answer.new_certain),
+        unsure: rows.iter().filter(|row| unsure(row.certain)).count()
+            + new_vertices(answer).filter(|&v| unsure(answer.found_certain[v])).count(),
     }
 }

@@ -97,7 +97,7 @@ fn without_partner(answer: &Answer) -> String {
     let (found, table) = (&answer.plant.found, &answer.plant.table);
     let mut text = "found without a partner\n".to_owned();
     for v in new_vertices(answer) {
-        text += &format!("{}{}  label {}", found.called(v), unsure(answer.new_certain[v]), label(&table.vertex, found.label(v)));
+        text += &format!("{}{}  label {}", found.called(v), unsure(answer.found_certain[v]), label(&table.vertex, found.label(v)));
         for (at, w) in answer.found.neighbours(v).enumerate() {
             let edge = label(&table.edge, answer.found.edge(v, w).unwrap_or_default());
             text += &format!(", {}{} (edge label {edge})", if at == 0 { "joined to " } else { "" }, found.called(w));
@@ -111,7 +111,7 @@ fn without_partner(answer: &Answer) -> String {
 fn legend(answer: &Answer, rows: &[Row]) -> String {
     let edges = rows.iter().any(|row| row.edge.map_or(false, |(was, is)| was != is));
     let changed = edges || answer.pairs().any(|(u, v)| answer.label_changed(u, v));
-    let unsure = answer.certain.iter().chain(&answer.new_certain).any(|&certain| certain != Certainty::Certain);
+    let unsure = answer.certain.iter().chain(&answer.found_certain).any(|&certain| certain != Certainty::Certain);
     let mut text = String::new();
     if changed {
         text += "\n! the label is another one now\n";

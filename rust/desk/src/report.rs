@@ -77,22 +77,13 @@ fn found(answer: &Answer, rows: &[Row]) -> Json {
     let one = |v: usize| {
         let row = answer.back[v].and_then(|u| rows.iter().find(|row| row.vertex == u));
         let state = row.map_or(State::New, |row| row.state);
-        let certain = row.map_or(answer.new_certain[v], |row| certain_of_partner(row.certain));
         let mut members = vertex(&answer.plant.found, &answer.plant.table.vertex, v);
         members.extend([("state", state.word().into()), ("partner", answer.back[v].into())]);
-        members.extend(certainty(certain));
+        members.extend(certainty(answer.found_certain[v]));
         members.extend([("weight", row.map(|row| answer.pair_weight(row.vertex, v)).into()), ("edge", Json::Null)]);
         Json::Object(members)
     };
     Json::List((0..answer.back.len()).map(one).collect())
-}
-
-/// Of a found vertex with a partner: whether the pair is certain. Which recorded vertex it is with otherwise was not asked.
-fn certain_of_partner(certain: Certainty) -> Certainty {
-    match certain {
-        Certainty::Otherwise(_) => Certainty::Otherwise(None),
-        other => other,
-    }
 }
 
 fn vertex(tree: &Tree, labels: &Weights, u: usize) -> Vec<(&'static str, Json)> {

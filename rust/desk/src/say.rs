@@ -78,7 +78,7 @@ fn found_line(answer: &Answer, v: usize) -> String {
     if !joined.is_empty() {
         line += &format!(", joined to {}", joined.join(", "));
     }
-    line + &doubt(answer.new_certain[v], |u| recorded(answer, u))
+    line + &doubt(answer.found_certain[v], |u| recorded(answer, u))
 }
 
 /// What another heaviest mapping says.

@@ -116,9 +116,8 @@ fn lines(sheet: &Sheet, side: usize) -> String {
         parts[usize::from(mapped) + usize::from(changed)] += &format!("<path {marks}d=\"{}\"/>\n", line(sheet, side, u, parent));
     }
     let [grey, same, changed] = parts;
-    format!(
-        "<g fill=\"none\" stroke=\"#9a9a9a\" stroke-width=\"1.5\">\n{grey}</g>\n<g fill=\"none\" stroke=\"#222\" stroke-width=\"2\">\n{same}{changed}</g>\n"
-    )
+    let group = |stroke: &str, paths: String| format!("<g fill=\"none\" {stroke}>\n{paths}</g>\n");
+    group("stroke=\"#9a9a9a\" stroke-width=\"1.5\"", grey) + &group("stroke=\"#222\" stroke-width=\"2\"", same + &changed)
 }
 
 /// From the parent along the rows, then to the vertex in its own row, with a round corner; to a straight vertex only along the rows.
@@ -163,18 +162,29 @@ fn vertices(sheet: &Sheet, side: usize) -> String {
 }
 
 fn vertex(sheet: &Sheet, side: usize, u: usize) -> String {
-    let (x, y, radius) = (sheet.x(side, u), sheet.y(side, u), sheet.style.radius);
-    let (radius, fill, digits, text) = match sheet.layout.hung[side].mate[u] {
-        Some(_) => (radius, format!("fill=\"{}\"", colour(sheet, side, u)), "#fff", "#111"),
-        None => (radius - 0.7, "fill=\"#fff\" stroke=\"#767676\" stroke-width=\"1.4\"".to_string(), "#595959", "#595959"),
-    };
+    let (x, y) = (sheet.x(side, u), sheet.y(side, u));
     let title = escaped(&words::title(sheet.answer, &sheet.layout, side, u));
-    let number = format!("font-size=\"{}\" font-weight=\"bold\" text-anchor=\"middle\" fill=\"{digits}\"", N(sheet.style.number));
+    let text = if sheet.layout.hung[side].mate[u].is_some() { "#111" } else { "#595959" };
     let beside = x + sign(side) * (sheet.style.radius + BESIDE);
-    let (x, base, beside, y, radius) = (N(x), N(y + 4.0), N(beside), N(y), N(radius));
     format!(
-        "<g><title>{title}</title>\n<circle cx=\"{x}\" cy=\"{y}\" r=\"{radius}\" {fill}/>\n<text x=\"{x}\" y=\"{base}\" {number}>{u}</text>\n\
-         <text x=\"{beside}\" y=\"{base}\" fill=\"{text}\">{}</text></g>\n",
+        "<g><title>{title}</title>\n{}<text x=\"{}\" y=\"{}\" fill=\"{text}\">{}</text></g>\n",
+        circle(sheet, side, u, x, y),
+        N(beside),
+        N(y + 4.0),
         escaped(&sheet.texts[side][u])
     )
+}
+
+/// The circle of a vertex with its number, bold if there is room: filled with the pair's colour, or hollow.
+fn circle(sheet: &Sheet, side: usize, u: usize, x: f64, y: f64) -> String {
+    let radius = sheet.style.radius;
+    let ring = if radius < 8.0 { 1.0 } else { 1.4 };
+    let (outer, inner, fill, digits) = match sheet.layout.hung[side].mate[u] {
+        Some(_) => (radius, radius, format!("fill=\"{}\"", colour(sheet, side, u)), "#fff"),
+        None => (radius - ring / 2.0, radius - ring, format!("fill=\"#fff\" stroke=\"#767676\" stroke-width=\"{}\"", N(ring)), "#595959"),
+    };
+    let weight = if widths::bold("00", sheet.style.number) <= 2.0 * inner { " font-weight=\"bold\"" } else { "" };
+    let number = format!("font-size=\"{}\"{weight} text-anchor=\"middle\" fill=\"{digits}\"", N(sheet.style.number));
+    let (x, y, base) = (N(x), N(y), N(y + 4.0));
+    format!("<circle cx=\"{x}\" cy=\"{y}\" r=\"{}\" {fill}/>\n<text x=\"{x}\" y=\"{base}\" {number}>{u}</text>\n", N(outer))
 }

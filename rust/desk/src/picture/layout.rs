@@ -1,8 +1,5 @@
-//! Where the vertices of a picture stand: the order of rows, the rows, how far they are indented, and which branches are folded.
-//!
-//! Each vertex has a row of its own, with a part of its children above it and the others below; partners have the same row. In a narrow layout the
-//! heaviest child of a vertex may be straight: it stands below the other children, not indented, with all its own children below it. So a path is
-//! one column, the line to a straight child meets nothing, and a tree of 64 vertices is indented a few times only.
+//! Where the vertices of a picture stand: which branches are folded, and the rows. Each vertex has a row of its own, its partner the same.
+use super::order::{Hanging, Stand};
 use crate::answer::Answer;
 use crate::graph::{Graph, Rooted};
 use crate::plant::Tree;
@@ -50,8 +47,8 @@ impl<'a> Hung<'a> {
         [recorded, Hung::at(top, &answer.plant.found, &answer.found, &answer.back)]
     }
 
-    /// How many vertices of each branch are shown; of a folded one it is the top.
-    fn sizes(&self, folded: &[bool]) -> Vec<usize> {
+    /// How many vertices of each branch are shown: of a folded one only the top.
+    pub fn sizes(&self, folded: &[bool]) -> Vec<usize> {
         let mut sizes = vec![1; self.tree.size()];
         for &u in self.rooted.preorder.iter().rev() {
             sizes[u] = if folded[u] { 1 } else { sizes[u] };
@@ -69,24 +66,12 @@ impl<'a> Hung<'a> {
         order[at..].iter().take(self.size[u] - 1).copied().collect()
     }
 
-    /// Whether this is a whole branch without any partner, and large enough to be folded. Where nothing has a partner nothing is a branch of it.
+    /// Whether this is a whole branch without any partner, and large enough to be folded. Where no vertex at all has a partner nothing is
+    /// folded: the picture would be empty.
     fn can_fold(&self, u: usize) -> bool {
-        let whole = self.rooted.parent[u].map_or(false, |parent| !self.grey[parent]);
+        let whole = matches!(self.rooted.parent[u], Some(parent) if !self.grey[parent]);
         whole && self.grey[u] && self.size[u] > SMALL
     }
-}
-
-/// Where the vertices of a tree stand.
-#[derive(Clone)]
-pub struct Stand {
-    /// The vertices that are shown, in the order of their rows.
-    pub order: Vec<usize>,
-    /// Of each vertex that is shown its row, from 1 on.
-    pub row: Vec<usize>,
-    /// How many steps it is indented.
-    pub indent: Vec<usize>,
-    pub straight: Vec<bool>,
-    pub folded: Vec<bool>,
 }
 
 pub struct Layout<'a> {
@@ -127,139 +112,29 @@ fn folds(hung: &[Hung; 2], open: [Vec<bool>; 2], narrow: bool) -> [Vec<bool>; 2]
     folded
 }
 
-/// Where the vertices stand if these branches are folded, and the number of rows.
+/// Where the vertices stand if these branches are folded, and the number of rows. The found tree follows the recorded one; in a narrow
+/// layout they then follow each other in turn as long as that saves rows.
 fn arranged(hung: &[Hung; 2], folded: &[Vec<bool>; 2], narrow: bool) -> ([Stand; 2], usize) {
-    let shown = [RECORDED, FOUND].map(|side| hung[side].sizes(&folded[side]));
-    let mut hanging = Hanging { hung, folded, shown, narrow, place: Vec::new() };
+    let mut hanging = Hanging::new(hung, folded, narrow);
     let recorded = hanging.stand(RECORDED);
-    hanging.place = places(&recorded.order, hung[RECORDED].tree.size());
-    let mut stand = [recorded, hanging.stand(FOUND)];
-    let rows = give_rows(hung, &mut stand);
-    (stand, rows)
-}
-
-fn places(order: &[usize], size: usize) -> Vec<usize> {
-    let mut place = vec![0; size];
-    order.iter().enumerate().for_each(|(at, &u)| place[u] = at);
-    place
-}
-
-/// What the order of a tree is found with.
-struct Hanging<'a, 'b> {
-    hung: &'b [Hung<'a>; 2],
-    folded: &'b [Vec<bool>; 2],
-    /// How many vertices of each branch are shown.
-    shown: [Vec<usize>; 2],
-    narrow: bool,
-    /// The places of recorded vertices in their order, once it is known.
-    place: Vec<usize>,
-}
-
-/// The children of a vertex in the order of their rows.
-struct Branches {
-    above: Vec<usize>,
-    below: Vec<usize>,
-    /// The last of those below, if it is straight.
-    straight: Option<usize>,
-}
-
-impl Hanging<'_, '_> {
-    fn stand(&self, side: usize) -> Stand {
-        let size = self.hung[side].tree.size();
-        let folded = self.folded[side].clone();
-        let mut stand = Stand { order: Vec::new(), row: vec![0; size], indent: vec![0; size], straight: vec![false; size], folded };
-        self.hang(side, self.hung[side].rooted.preorder[0], &mut stand);
-        stand
-    }
-
-    /// Writes the branch of `u` in the order of its rows; `u` is indented and straight or not already.
-    fn hang(&self, side: usize, u: usize, stand: &mut Stand) {
-        let branches = match self.hung[side].mate[u] {
-            Some(mate) if side == FOUND => self.following(u, mate),
-            _ => self.free(side, u, stand.straight[u]),
-        };
-        for &c in branches.above.iter().chain(&branches.below) {
-            stand.straight[c] = branches.straight == Some(c);
-            stand.indent[c] = stand.indent[u] + usize::from(!stand.straight[c]);
+    hanging.follow(RECORDED, &recorded.order);
+    let mut best = [recorded, hanging.stand(FOUND)];
+    let mut rows = give_rows(hung, &mut best);
+    let mut followed = FOUND;
+    let mut saved = narrow;
+    while saved {
+        let mut stand = best.clone();
+        hanging.follow(followed, &stand[followed].order);
+        stand[1 - followed] = hanging.stand(1 - followed);
+        let fewer = give_rows(hung, &mut stand);
+        saved = fewer < rows;
+        if saved {
+            best = stand;
+            rows = fewer;
+            followed = 1 - followed;
         }
-        branches.above.iter().for_each(|&c| self.hang(side, c, stand));
-        stand.order.push(u);
-        branches.below.iter().for_each(|&c| self.hang(side, c, stand));
     }
-
-    fn children(&self, side: usize, u: usize) -> Vec<usize> {
-        let children = self.hung[side].rooted.children(u);
-        children.filter(|_| !self.folded[side][u]).collect()
-    }
-
-    /// Half of the children above; a straight vertex has all below.
-    fn free(&self, side: usize, u: usize, straight: bool) -> Branches {
-        let mut above = self.children(side, u);
-        let last = self.heaviest(side, above.iter().copied(), above.len());
-        let mut lone = Vec::new();
-        if self.narrow && self.hung[side].mate[u].is_some() {
-            lone = above.iter().copied().filter(|&c| self.hung[side].mate[c].is_none()).collect();
-            above.retain(|c| !lone.contains(c));
-        }
-        let half = if straight { 0 } else { above.len() / 2 };
-        above.retain(|&c| Some(c) != last);
-        let below = above.split_off(half);
-        self.filled(above, below, lone, last)
-    }
-
-    /// Children of a found vertex that have partners stand as those do.
-    fn following(&self, u: usize, mate: usize) -> Branches {
-        let children = self.children(FOUND, u);
-        let count = children.len();
-        let (mut above, lone): (Vec<usize>, Vec<usize>) = children.into_iter().partition(|&c| self.placed(c).is_some());
-        above.sort_by_key(|&c| self.placed(c));
-        let split = above.iter().filter(|&&c| self.placed(c) < Some(self.place[mate])).count();
-        let below = above.split_off(split);
-        let level = below.last().copied().filter(|&c| self.all_below(c));
-        let last = self.heaviest(FOUND, lone.iter().copied().chain(level), count);
-        self.filled(above, below, lone, last)
-    }
-
-    /// Adds children without partners: in a narrow layout right below, where those of the other tree are too and rows are shared, else to the
-    /// shorter side. Then the straight child.
-    fn filled(&self, mut above: Vec<usize>, mut below: Vec<usize>, mut lone: Vec<usize>, last: Option<usize>) -> Branches {
-        below.retain(|&c| Some(c) != last);
-        lone.retain(|&c| Some(c) != last);
-        if self.narrow {
-            below.splice(0..0, lone.drain(..));
-        }
-        for c in lone {
-            if above.len() < below.len() {
-                above.insert(0, c);
-            } else {
-                below.push(c);
-            }
-        }
-        below.extend(last);
-        Branches { above, below, straight: last }
-    }
-
-    /// The place of a found vertex's partner.
-    fn placed(&self, v: usize) -> Option<usize> {
-        self.hung[FOUND].mate[v].map(|u| self.place[u])
-    }
-
-    /// Whether every child of a found vertex can stand below it.
-    fn all_below(&self, v: usize) -> bool {
-        self.children(FOUND, v).into_iter().all(|c| self.placed(c).map_or(true, |place| Some(place) > self.placed(v)))
-    }
-
-    /// The child that is to be straight, of those that can be. A leaf beside others is not: it would save nothing.
-    fn heaviest(&self, side: usize, children: impl Iterator<Item = usize>, count: usize) -> Option<usize> {
-        let heaviest = children.max_by_key(|&c| self.heaviness(side, c));
-        heaviest.filter(|&c| self.narrow && (count == 1 || self.shown[side][c] > 1))
-    }
-
-    /// Where the recorded tree leads, the partner's branch counts too.
-    fn heaviness(&self, side: usize, u: usize) -> usize {
-        let other = self.hung[side].mate[u].filter(|_| side == RECORDED);
-        self.shown[side][u] + other.map_or(0, |v| self.shown[FOUND][v])
-    }
+    (best, rows)
 }
 
 /// Gives partners the same row, and what stands between two pairs the rows between them, beside each other. Returns the number of rows.

@@ -7,7 +7,7 @@ use crate::answer::Answer;
 const PAGE: [f64; 2] = [190.0 / 25.4 * 72.0, 277.0 / 25.4 * 72.0];
 
 /// Text on the page is to have so many points.
-const READABLE: f64 = 6.0;
+const READABLE: f64 = 5.8;
 
 pub const MARGIN: f64 = 24.0;
 /// Where the rows begin.
@@ -27,7 +27,7 @@ pub struct Style {
     narrow: bool,
     /// Of a row.
     pub height: f64,
-    /// Of a circle.
+    /// Of a circle; a hollow one is as large.
     pub radius: f64,
     /// Font sizes: of labels, of numbers in circles, of edge labels.
     pub label: f64,
@@ -35,6 +35,8 @@ pub struct Style {
     pub edge: f64,
     /// How far edge labels stand above their line.
     pub lift: f64,
+    /// Of the picture, at least.
+    width: f64,
     /// Between the two trees in a row; with a line across.
     gap: f64,
     /// How far a tree is indented in all, if each step can be that large.
@@ -44,15 +46,16 @@ pub struct Style {
 
 /// From the roomiest on. A row of the closest one has just room for its text, and a circle for two digits.
 const STYLES: [Style; 4] = [
-    style(false, [28.0, 11.0], [12.0, 11.0, 10.0], 4.0, 80.0, [640.0, 44.0]),
-    style(true, [24.0, 10.0], [12.0, 11.0, 10.0], 4.0, 70.0, [240.0, 36.0]),
-    style(true, [20.0, 8.7], [11.5, 11.0, 9.0], 3.0, 60.0, [180.0, 28.0]),
-    style(true, [17.0, 7.5], [11.0, 10.0, 8.5], 3.0, 50.0, [140.0, 24.0]),
+    style(false, [28.0, 11.0], [12.0, 11.0, 10.0], 4.0, [480.0, 80.0], [640.0, 44.0]),
+    style(true, [24.0, 10.0], [12.0, 11.0, 10.0], 4.0, [640.0, 70.0], [240.0, 36.0]),
+    style(true, [20.0, 8.7], [11.5, 11.0, 9.0], 3.0, [640.0, 60.0], [180.0, 28.0]),
+    style(true, [16.0, 7.0], [10.5, 10.0, 8.0], 3.0, [640.0, 50.0], [140.0, 24.0]),
 ];
 
-const fn style(narrow: bool, row: [f64; 2], fonts: [f64; 3], lift: f64, gap: f64, steps: [f64; 2]) -> Style {
-    let ([height, radius], [label, number, edge], [indent, largest_step]) = (row, fonts, steps);
-    Style { narrow, height, radius, label, number, edge, lift, gap, indent, largest_step }
+const fn style(narrow: bool, row: [f64; 2], fonts: [f64; 3], lift: f64, across: [f64; 2], steps: [f64; 2]) -> Style {
+    let ([height, radius], [label, number, edge]) = (row, fonts);
+    let ([width, gap], [indent, largest_step]) = (across, steps);
+    Style { narrow, height, radius, label, number, edge, lift, width, gap, indent, largest_step }
 }
 
 /// A picture before it is written.
@@ -140,7 +143,7 @@ impl<'a> Sheet<'a> {
     fn needed_width(&self) -> f64 {
         let reaches = [RECORDED, FOUND].map(|side| self.reaches(side));
         let widest = reaches[RECORDED].iter().zip(&reaches[FOUND]).map(|(r, f)| r + f).fold(0.0, f64::max);
-        (widest + self.style.gap).max(480.0)
+        (widest + self.style.gap).max(self.style.width)
     }
 
     /// How far the tree reaches in each row, with its lines.
@@ -164,6 +167,6 @@ fn step(answer: &Answer, layout: &Layout, style: &Style) -> f64 {
     let deepest = both().map(|(side, u)| layout.stand[side].indent[u]).max().unwrap_or(0).max(1);
     let labels = both().filter_map(|(side, u)| words::edge_label(answer, layout, side, u));
     let widest = labels.map(|label| widths::bold(&label, style.edge)).fold(0.0, f64::max);
-    let least = (style.radius + 4.5 + widest).ceil();
+    let least = (style.radius + 5.5 + widest).ceil();
     (style.indent / deepest as f64).floor().min(style.largest_step).max(least)
 }

@@ -53,7 +53,7 @@ fn doubt(certain: bool) -> &'static str {
 fn certainty(answer: &Answer, side: usize, u: usize) -> Certainty {
     match (side, answer.back.get(u)) {
         (FOUND, Some(&Some(partner))) => answer.certain[partner],
-        (FOUND, _) => answer.new_certain[u],
+        (FOUND, _) => answer.found_certain[u],
         _ => answer.certain[u],
     }
 }
@@ -67,10 +67,13 @@ pub fn title(answer: &Answer, layout: &Layout, side: usize, u: usize) -> String 
     let mate = layout.hung[side].mate[u];
     let partner = mate.map_or("no partner".to_string(), |v| format!("partner {v}"));
     let mut title = format!("{} vertex {u}, {}, {partner}", SIDES[side], called(answer, side, u));
-    title += match certainty(answer, side, u) {
-        Certainty::Certain => "",
-        Certainty::Otherwise(_) => ", otherwise in another heaviest mapping",
-        Certainty::Unknown => ", not known whether certain",
+    title += &match (certainty(answer, side, u), mate) {
+        (Certainty::Certain, _) => String::new(),
+        (Certainty::Unknown, _) => ", not known whether certain".to_string(),
+        // of a pair it is the recorded vertex that has another partner
+        (Certainty::Otherwise(_), Some(_)) if side == FOUND => ", otherwise in another heaviest mapping".to_string(),
+        (Certainty::Otherwise(Some(other)), _) => format!(", partner {other} in another heaviest mapping"),
+        (Certainty::Otherwise(None), _) => ", no partner in another heaviest mapping".to_string(),
     };
     let hidden = if layout.stand[side].folded[u] { layout.hung[side].below(u) } else { Vec::new() };
     for (i, &v) in hidden.iter().enumerate() {
@@ -95,7 +98,7 @@ pub fn description(answer: &Answer) -> String {
 pub fn is_changed(layout: &Layout, side: usize, u: usize) -> bool {
     let (here, there) = (&layout.hung[side], &layout.hung[1 - side]);
     let pair = here.rooted.parent[u].and_then(|parent| Some((parent, here.mate[parent]?, here.mate[u]?)));
-    pair.map_or(false, |(parent, mate, own)| here.graph.edge(u, parent) != there.graph.edge(own, mate))
+    matches!(pair, Some((parent, mate, own)) if here.graph.edge(u, parent) != there.graph.edge(own, mate))
 }
 
 /// The label of the edge of a vertex to its parent; nothing if there is only one edge label.
@@ -113,13 +116,11 @@ pub fn legend(answer: &Answer, layout: &Layout) -> Vec<String> {
         legend.push(edges(answer));
     }
     if (0..answer.partner.len()).any(|u| is_changed(layout, RECORDED, u)) {
-        legend.push(
-            "Edges drawn thick and dashed, with ! at their label: mapped neighbours whose partners' edge has another label.".to_string(),
-        );
+        legend.push("Edges thick and dashed, with ! at their label: the edge between the partners has another label.".to_string());
     }
     legend.extend(doubts(answer));
     if layout.stand.iter().any(|stand| stand.folded.contains(&true)) {
-        legend.push("“and … more”: a branch of which no vertex has a partner is folded into its first vertex.".to_string());
+        legend.push("“and … more”: a branch without any partner, folded into its first vertex.".to_string());
     }
     legend
 }
@@ -143,7 +144,7 @@ fn edges(answer: &Answer) -> String {
 
 /// What `?` means in this picture.
 fn doubts(answer: &Answer) -> Option<String> {
-    let all = || answer.certain.iter().chain(&answer.new_certain);
+    let all = || answer.certain.iter().chain(&answer.found_certain);
     let otherwise = all().any(|c| matches!(c, Certainty::Otherwise(_)));
     let unknown = all().any(|c| *c == Certainty::Unknown);
     let why = match (otherwise, unknown) {
