@@ -43,6 +43,11 @@ pub fn print(bytes: &[u8]) -> Result<(), Trouble> {
     out.write_all(bytes).and_then(|()| out.flush()).map_err(|why| Trouble { name: "standard output".into(), why })
 }
 
+/// Says something on standard error; where that cannot be, there is no one left to tell.
+pub fn say(text: &str) {
+    let _ = io::stderr().write_all(text.as_bytes());
+}
+
 /// Leaves these bytes as the file, or prints them for `-`.
 pub fn write(name: &str, bytes: &[u8]) -> Result<(), Trouble> {
     if name == "-" {

@@ -15,7 +15,7 @@ fn main() -> ExitCode {
     let status = match arguments {
         Ok(arguments) => asked(read(&arguments)),
         Err(word) => {
-            eprintln!("pensummer: an argument is no text in UTF-8: {}", word.to_string_lossy());
+            files::say(&format!("pensummer: an argument is no text in UTF-8: {}\n", word.to_string_lossy()));
             TROUBLE
         }
     };
@@ -27,7 +27,7 @@ fn asked(asked: Asked) -> u8 {
         Asked::Do(call) => run(&call).map_or_else(|failure| failed(&call, failure), |()| DONE),
         Asked::Help(text) => files::print(text.as_bytes()).map_or_else(trouble, |()| DONE),
         Asked::Wrong(text) => {
-            eprint!("{text}");
+            files::say(&text);
             TROUBLE
         }
     }
@@ -37,11 +37,11 @@ fn failed(call: &Call, failure: Failure) -> u8 {
     match failure {
         Failure::Trouble(why) => trouble(why),
         Failure::Fault(fault) => {
-            eprintln!("{fault}");
+            files::say(&format!("{fault}\n"));
             TROUBLE
         }
         Failure::NotAccepted(fault) => {
-            eprintln!("{fault}");
+            files::say(&format!("{fault}\n"));
             REFUSED
         }
         Failure::Refused(refused) => said(call, &refused).map_or_else(trouble, |()| REFUSED),
@@ -50,7 +50,7 @@ fn failed(call: &Call, failure: Failure) -> u8 {
 
 fn trouble(why: files::Trouble) -> u8 {
     if let Some(message) = why.message() {
-        eprintln!("{message}");
+        files::say(&format!("{message}\n"));
     }
     TROUBLE
 }
@@ -70,10 +70,10 @@ fn said(call: &Call, refused: &Refused) -> Result<(), files::Trouble> {
         _ => (),
     }
     if call.command.name != "check" {
-        eprintln!("pensummer: {}", refused.refusal);
+        files::say(&format!("pensummer: {}\n", refused.refusal));
     }
     if let Some(fault) = &refused.fault {
-        eprintln!("{fault}");
+        files::say(&format!("{fault}\n"));
     }
     Ok(())
 }

@@ -29,7 +29,7 @@ pub fn write(call: &Call, input: &Input) -> Done {
     };
     // where the certificate itself is printed, what is said of it goes beside
     if output == "-" {
-        eprint!("{said}");
+        files::say(&said);
         return Ok(());
     }
     Ok(files::print(said.as_bytes())?)

@@ -54,10 +54,6 @@ struct File {
 }
 
 impl File {
-    fn holds_table(self) -> bool {
-        self.at == 0
-    }
-
     fn holds_recorded(self) -> bool {
         self.at == usize::from(self.of > 1)
     }
@@ -134,8 +130,8 @@ impl File {
             other => other,
         };
         let missing = match state {
-            State::Nothing | State::InTable(_) if self.holds_table() && !self.holds_recorded() => "table",
-            State::Nothing | State::InTable(_) | State::AfterTable(_) if self.holds_recorded() => "recorded tree",
+            State::Nothing => "table",
+            State::InTable(_) | State::AfterTable(_) if self.holds_recorded() => "recorded tree",
             State::InRecorded(..) | State::AfterRecorded(..) if self.holds_found() => "found tree",
             other => return Ok(other),
         };
