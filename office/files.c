@@ -155,6 +155,17 @@ static void replace(const char *program, const char *name, const char *path, con
     sigprocmask(SIG_SETMASK, &before, NULL);
 }
 
+void keep_apart(const char *program, char **inputs, int count, const char *output) {
+    struct stat read, written;
+    if (stat(output, &written) != 0 || !S_ISREG(written.st_mode)) return;
+    for (int i = 0; i < count; i++) {
+        if (stat(inputs[i], &read) == 0 && read.st_dev == written.st_dev && read.st_ino == written.st_ino) {
+            fprintf(stderr, "%s: %s: this file is read and would be written over\n", program, output);
+            exit(2);
+        }
+    }
+}
+
 void write_file(const char *program, const char *name, const uint8_t *at, size_t len) {
     /* a reader that has gone and a limit on file sizes are errors of a write, not the program's end */
     signal(SIGPIPE, SIG_IGN);

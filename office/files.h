@@ -19,6 +19,9 @@ void read_files(const char *program, char **names, int count, struct bytes *file
 /* Where a program speaks that writes to `name`: standard error if that is standard output, `-` or by another name. */
 FILE *speech(const char *name);
 
+/* Ends the program with a message and status 2 if `output` is one of the files that are read. */
+void keep_apart(const char *program, char **inputs, int count, const char *output);
+
 /* Writes these bytes to `name`. A regular file, or one that is not there yet, is left whole or as it was: the bytes are
  * written beside it, brought to the disk and moved into its place. Symbolic links are followed and stay, the file's
  * mode stays, and a file that may not be written is not replaced; another name of it (a hard link) keeps the old bytes.

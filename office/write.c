@@ -2,7 +2,8 @@
  * three may be `-`, standard input, and the fourth may be `-`, standard output. Prints `written` and its length in
  * bytes, or `refused` and the item's number; then it leaves the fourth as it was and says on standard error what the
  * item says. Where the certificate goes to standard output, all of this is printed on standard error. Ends with 0 if
- * written, 1 if refused, 2 if a file cannot be read or written or nothing can be printed. */
+ * written, 1 if refused, 2 if a file cannot be read or written, if the fourth is one of the others, or if nothing can be
+ * printed. */
 #include "files.h"
 #include "items.h"
 #include "../include/pensummer.h"
@@ -16,6 +17,7 @@ int main(int argc, char **argv) {
         return 2;
     }
     struct bytes files[3];
+    keep_apart("write", argv + 1, 3, argv[4]);
     read_files("write", argv + 1, 3, files);
     struct pensummer_write_result r =
         pensummer_write(files[0].at, files[0].len, files[1].at, files[1].len, files[2].at, files[2].len,

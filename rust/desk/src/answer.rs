@@ -3,6 +3,7 @@ use crate::bytes::Bytes;
 use crate::certainty;
 use crate::graph::Graph;
 use crate::plant::{At, Fault, Place, Plant};
+use crate::words::quote;
 use pensummer::{Refusal, FORBIDDEN, NONE, VERTICES_MOST, WORK_MOST};
 use std::rc::Rc;
 
@@ -219,7 +220,7 @@ impl<'a> Lines<'a> {
     fn partners(&self, plant: &Plant) -> Result<(i64, Vec<Option<usize>>), Fault> {
         let weight = match self.line(1).strip_prefix("weight ").and_then(|number| number.parse().ok()) {
             Some(weight) => weight,
-            None => return self.fault(1, format!("the first line is `weight` and a number, not `{}`", self.line(1))),
+            None => return self.fault(1, format!("the first line is `weight` and a number, not {}", quote(self.line(1)))),
         };
         let size = plant.recorded.size();
         let mut partners = Vec::new();
@@ -242,7 +243,7 @@ impl<'a> Lines<'a> {
             Some(("-", _)) => Ok(None),
             Some((_, Ok(v))) if v < found => Ok(Some(v)),
             Some((_, Ok(v))) => self.fault(at, format!("the found tree has no vertex {v}")),
-            _ => self.fault(at, format!("this line has recorded vertex {u} and its partner or `-`, not `{}`", self.line(at))),
+            _ => self.fault(at, format!("this line has recorded vertex {u} and its partner or `-`, not {}", quote(self.line(at)))),
         }
     }
 }

@@ -75,6 +75,11 @@ fn parsed(command: &'static Command, arguments: &[String]) -> Result<Call, Strin
 }
 
 impl Call {
+    /// The files that are read.
+    pub fn inputs(&self) -> impl Iterator<Item = &String> {
+        self.plant.iter().chain(&self.certificate).chain(&self.answer)
+    }
+
     fn option<'a>(&mut self, word: &str, words: &mut impl Iterator<Item = &'a String>) -> Result<(), String> {
         let (name, mut value) = match word.split_once('=') {
             Some((name, value)) => (name, Some(value.to_owned())),
@@ -120,7 +125,10 @@ fn once(flag: &mut bool, name: &str) -> Result<(), String> {
 
 /// Whether files and options fit together.
 fn tested(call: Call) -> Result<Call, String> {
-    let inputs = call.plant.iter().chain(&call.certificate).chain(&call.answer);
+    let inputs = call.inputs();
+    if call.inputs().chain(&call.output).chain(&call.split).any(String::is_empty) {
+        return Err("a file name is empty".into());
+    }
     if inputs.filter(|name| *name == "-").count() > 1 {
         return Err("standard input can be read once".into());
     }

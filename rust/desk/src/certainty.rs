@@ -5,32 +5,72 @@ use crate::bytes::{tree_bytes, Bytes};
 use crate::plant::{Plant, Tree};
 use pensummer::{FORBIDDEN, VERTEX_LABELS_MOST, WEIGHT_MOST};
 
+/// The partner of each recorded vertex.
+type Partners = Vec<Option<usize>>;
+
+/// What a question gives: a mapping as heavy that says otherwise, that there is none, or that it could not be asked.
+enum Asked {
+    Otherwise(Partners),
+    None,
+    NoRoom,
+}
+
 /// Fills in what is certain.
 pub fn ask(answer: &mut Answer) {
     let plant = answer.plant;
+    // what each question gave, of recorded vertices and of found ones without a partner
+    let recorded: Vec<Asked> = (0..answer.partner.len())
+        .map(|u| match answer.partner[u] {
+            Some(v) => without_pair(plant, answer.weight, u, v),
+            None => with_recorded(plant, answer.weight, u),
+        })
+        .collect();
+    let found: Vec<Asked> = (0..answer.back.len())
+        .map(|v| match answer.back[v] {
+            Some(_) => Asked::NoRoom,
+            None => with_found(plant, answer.weight, v),
+        })
+        .collect();
+    let others: Vec<&Partners> = recorded.iter().chain(&found).filter_map(Asked::other).collect();
     for u in 0..answer.partner.len() {
-        match answer.partner[u] {
-            Some(v) => (answer.certain[u], answer.found_certain[v]) = without_pair(plant, answer.weight, u, v),
-            None => answer.certain[u] = with_recorded(plant, answer.weight, u),
-        }
+        answer.certain[u] = recorded[u].certainty(&others, answer.partner[u], |partner| partner[u]);
     }
     for v in 0..answer.back.len() {
-        if answer.back[v].is_none() {
-            answer.found_certain[v] = with_found(plant, answer.weight, v);
+        // a pair was asked about by its recorded vertex
+        let asked = answer.back[v].map_or(&found[v], |u| &recorded[u]);
+        answer.found_certain[v] = asked.certainty(&others, answer.back[v], |partner| recorded_with(partner, v));
+    }
+}
+
+impl Asked {
+    fn other(&self) -> Option<&Partners> {
+        match self {
+            Asked::Otherwise(partner) => Some(partner),
+            _ => None,
+        }
+    }
+
+    /// What is known of a vertex with this partner. Where there was no room for its own question, another's answer may tell.
+    fn certainty(&self, others: &[&Partners], own: Option<usize>, of: impl Fn(&Partners) -> Option<usize>) -> Certainty {
+        match self {
+            Asked::Otherwise(partner) => Certainty::Otherwise(of(partner)),
+            Asked::None => Certainty::Certain,
+            Asked::NoRoom => {
+                let other = others.iter().map(|partner| of(partner)).find(|&other| other != own);
+                other.map_or(Certainty::Unknown, Certainty::Otherwise)
+            }
         }
     }
 }
 
-/// Is there a mapping as heavy without this pair? Of either vertex.
-fn without_pair(plant: &Plant, weight: i64, u: usize, v: usize) -> (Certainty, Certainty) {
+/// Is there a mapping as heavy without this pair?
+fn without_pair(plant: &Plant, weight: i64, u: usize, v: usize) -> Asked {
     let mut question = Question::about(plant, Some(u), Some(v));
     question.weights[question.recorded[u]][question.found[v]] = FORBIDDEN;
     match question.answer(plant) {
-        None => (Certainty::Unknown, Certainty::Unknown),
-        Some((best, partner)) if i64::from(best) == weight => {
-            (Certainty::Otherwise(partner[u]), Certainty::Otherwise(recorded_with(&partner, v)))
-        }
-        Some(_) => (Certainty::Certain, Certainty::Certain),
+        None => Asked::NoRoom,
+        Some((best, partner)) if i64::from(best) == weight => Asked::Otherwise(partner),
+        Some(_) => Asked::None,
     }
 }
 
@@ -40,21 +80,21 @@ fn recorded_with(partner: &[Option<usize>], v: usize) -> Option<usize> {
 }
 
 /// Is there a mapping as heavy that has recorded u?
-fn with_recorded(plant: &Plant, weight: i64, u: usize) -> Certainty {
+fn with_recorded(plant: &Plant, weight: i64, u: usize) -> Asked {
     let mut question = Question::about(plant, Some(u), None);
     let row = question.recorded[u];
     let raised = question.found.clone().into_iter().map(|column| (row, column));
     let whole = question.raise(raised);
-    question.raised(plant, weight, whole, |partner| partner[u])
+    question.raised(plant, weight, whole)
 }
 
 /// Is there a mapping as heavy that has found v?
-fn with_found(plant: &Plant, weight: i64, v: usize) -> Certainty {
+fn with_found(plant: &Plant, weight: i64, v: usize) -> Asked {
     let mut question = Question::about(plant, None, Some(v));
     let column = question.found[v];
     let raised = question.recorded.clone().into_iter().map(|row| (row, column));
     let whole = question.raise(raised);
-    question.raised(plant, weight, whole, |partner| recorded_with(partner, v))
+    question.raised(plant, weight, whole)
 }
 
 /// A plant like another, but with labels that occur only, and with labels of their own for the vertices in question.
@@ -94,16 +134,16 @@ impl Question {
     }
 
     /// After a vertex's pairs were raised: a mapping that has the vertex and was as heavy weighs one more now.
-    fn raised(&self, plant: &Plant, weight: i64, whole: bool, partner: impl Fn(&[Option<usize>]) -> Option<usize>) -> Certainty {
+    fn raised(&self, plant: &Plant, weight: i64, whole: bool) -> Asked {
         match self.answer(plant) {
-            Some((best, all)) if i64::from(best) > weight => Certainty::Otherwise(partner(&all)),
-            Some(_) if whole => Certainty::Certain,
-            _ => Certainty::Unknown,
+            Some((best, partner)) if i64::from(best) > weight => Asked::Otherwise(partner),
+            Some(_) if whole => Asked::None,
+            _ => Asked::NoRoom,
         }
     }
 
     /// The heaviest mapping; none if there are more labels than a table can have.
-    fn answer(&self, plant: &Plant) -> Option<(i32, Vec<Option<usize>>)> {
+    fn answer(&self, plant: &Plant) -> Option<(i32, Partners)> {
         if self.weights.len() > VERTEX_LABELS_MOST {
             return None;
         }

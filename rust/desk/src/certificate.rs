@@ -53,6 +53,11 @@ pub struct Broken {
     pub reason: String,
 }
 
+/// A plant's bytes and texts begin with others.
+pub fn begins(bytes: &[u8]) -> bool {
+    bytes.starts_with(&HEAD_MARK)
+}
+
 const HEAD_MARK: [u8; 2] = [0xC1, 0x01];
 const PARTNER_MARK: [u8; 2] = [0xC1, 0x02];
 const RECORD_MARK: [u8; 2] = [0xC1, 0x03];
@@ -209,7 +214,7 @@ impl Reader<'_> {
     }
 
     fn wrong_length(&self) -> String {
-        format!("the certificate has {} bytes; one of these two trees has {}", self.bytes.len(), self.length)
+        format!("the certificate has {} bytes; that of these two trees has {}", self.bytes.len(), self.length)
     }
 }
 

@@ -59,7 +59,7 @@ pub fn new_vertices<'a>(answer: &'a Answer) -> impl Iterator<Item = usize> + 'a 
     (0..answer.back.len()).filter(move |&v| answer.back[v].is_none())
 }
 
-/// How many of each, and how many are not certain.
+/// How many of each, how many are not certain, and of how many that is not known.
 #[derive(Clone, Copy, Default)]
 pub struct Counts {
     pub kept: usize,
@@ -67,17 +67,27 @@ pub struct Counts {
     pub gone: usize,
     pub new: usize,
     pub unsure: usize,
+    pub unknown: usize,
 }
 
 pub fn counts(answer: &Answer, rows: &[Row]) -> Counts {
     let of = |state| rows.iter().filter(|row| row.state == state).count();
-    let unsure = |certain: Certainty| certain != Certainty::Certain;
+    let new = new_vertices(answer).map(|v| answer.found_certain[v]);
+    let certain: Vec<Certainty> = rows.iter().map(|row| row.certain).chain(new).collect();
+    let unknown = certain.iter().filter(|&&certain| certain == Certainty::Unknown).count();
     Counts {
         kept: of(State::Kept),
         changed: of(State::Changed),
         gone: of(State::Gone),
         new: new_vertices(answer).count(),
-        unsure: rows.iter().filter(|row| unsure(row.certain)).count()
-            + new_vertices(answer).filter(|&v| unsure(answer.found_certain[v])).count(),
+        unsure: certain.iter().filter(|&&certain| certain != Certainty::Certain).count() - unknown,
+        unknown,
     }
+}
+
+/// Of a recorded vertex with a name: another found vertex than its partner that has the same name. Names weigh nothing, so that this may be.
+pub fn name_elsewhere(answer: &Answer, u: usize) -> Option<usize> {
+    let name = answer.plant.recorded.vertices[u].name.as_ref()?;
+    let there = answer.plant.found.vertices.iter().position(|vertex| vertex.name.as_ref() == Some(name));
+    there.filter(|&v| answer.partner[u] != Some(v))
 }

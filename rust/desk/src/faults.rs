@@ -1,5 +1,6 @@
 //! Where in its input a refused plant is at fault, for people. The number of the item is the library's; this finds the place that it is about.
 use crate::plant::{Fault, Place, Plant, Tree, Weights};
+use crate::words::many;
 use pensummer::{DEGREE_MOST, EDGE_LABELS_MOST, FORBIDDEN, VERTEX_LABELS_MOST, VERTICES_MOST, WEIGHT_MOST};
 
 /// What item `item`, which refused the plant, is about; none if that item does not apply by this reading.
@@ -44,16 +45,37 @@ fn tree_fault(plant: &Plant, tree: &Tree, kind: u32) -> Option<Fault> {
 fn form(tree: &Tree) -> Option<Fault> {
     let (size, edges) = (tree.size(), tree.edges.len());
     if !(1..=VERTICES_MOST).contains(&size) {
-        return found(&tree.place, format!("a tree has 1 to {VERTICES_MOST} vertices, not {size}"));
+        return found(&tree.place, format!("the tree has {}; there are to be 1 to {VERTICES_MOST}", many(size, "vertex", "vertices")));
     }
-    let place = tree.edges.get(size - 1).map_or(&tree.place, |edge| &edge.place);
-    let many = |count, one: &str, more: &str| format!("{count} {}", if count == 1 { one } else { more });
-    let wanted = many(size - 1, "edge", "edges");
-    let reason = format!("a tree of {} has {wanted}, not {edges}", many(size, "vertex", "vertices"));
     if edges == size - 1 {
         return None;
     }
-    found(place, reason)
+    let sizes = format!("the tree has {} and {}", many(size, "vertex", "vertices"), many(edges, "edge", "edges"));
+    let said = |place: &Place, why: String| found(place, format!("{sizes}; there is to be one edge less than vertices{why}"));
+    match (loops(tree), tree.edges.get(size - 1), loose(tree)) {
+        // the edge that is one too many, as far as it can be told
+        (Some(fault), Some(_), _) => said(&fault.place, format!("; {}", fault.reason)),
+        (_, Some(extra), _) => said(&extra.place, String::new()),
+        (_, None, Some(vertex)) => {
+            said(&tree.vertices[vertex].place, format!("; vertex {} is not connected with vertex 0", tree.called(vertex)))
+        }
+        (_, None, None) => said(&tree.place, String::new()),
+    }
+}
+
+/// The first vertex that no edges connect with vertex 0.
+fn loose(tree: &Tree) -> Option<usize> {
+    let mut reached = vec![false; tree.size()];
+    *reached.get_mut(0)? = true;
+    for _ in 0..tree.size() {
+        for edge in &tree.edges {
+            let [a, b] = edge.ends.map(usize::from);
+            let near = *reached.get(a)? || *reached.get(b)?;
+            reached[a] = near;
+            reached[b] = near;
+        }
+    }
+    reached.iter().position(|there| !there)
 }
 
 fn labels(plant: &Plant, tree: &Tree) -> Option<Fault> {

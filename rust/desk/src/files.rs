@@ -2,6 +2,7 @@
 //! its mode and is either whole or as it was.
 use std::fs::{self, File, OpenOptions};
 use std::io::{self, Read, Write};
+use std::os::unix::fs::{FileTypeExt, MetadataExt};
 use std::path::{Path, PathBuf};
 
 /// No input of a plant is longer, in bytes.
@@ -48,29 +49,52 @@ pub fn say(text: &str) {
     let _ = io::stderr().write_all(text.as_bytes());
 }
 
-/// Leaves these bytes as the file, or prints them for `-`.
+/// Leaves these bytes as the file, or prints them for `-` and for any other name of standard output.
 pub fn write(name: &str, bytes: &[u8]) -> Result<(), Trouble> {
-    if name == "-" {
+    if is_output(name) {
         return print(bytes);
     }
     let path = real(Path::new(name));
     let written = match fs::metadata(&path) {
-        Ok(there) if there.is_file() => replace(&path, bytes, Some(there.permissions())),
-        Ok(_) => OpenOptions::new().write(true).open(&path).and_then(|mut file| file.write_all(bytes)),
-        Err(why) if why.kind() == io::ErrorKind::NotFound => replace(&path, bytes, None),
+        Ok(there) if there.is_file() && !is_descriptor(&path) => replace(&path, bytes, Some(there.permissions())),
+        // what is open already is not overwritten from its start: the bytes go behind what its owner wrote
+        Ok(there) => OpenOptions::new().write(true).append(there.is_file()).open(&path).and_then(|mut file| file.write_all(bytes)),
+        Err(why) if why.kind() == io::ErrorKind::NotFound && !is_descriptor(&path) => replace(&path, bytes, None),
         Err(why) => Err(why),
     };
     written.map_err(|why| Trouble { name: name.into(), why })
 }
 
-/// The file that a name stands for, symbolic links followed, also where there is none yet.
+/// Whether two names are of one file.
+pub fn is_same(one: &str, other: &str) -> bool {
+    match (fs::metadata(one), fs::metadata(other)) {
+        (Ok(a), Ok(b)) => a.is_file() && a.dev() == b.dev() && a.ino() == b.ino(),
+        _ => false,
+    }
+}
+
+/// Whether bytes that go to this name go where results are printed.
+pub fn is_output(name: &str) -> bool {
+    let pipe = || match (fs::metadata(name), fs::metadata("/dev/stdout")) {
+        (Ok(a), Ok(b)) => !a.file_type().is_char_device() && a.dev() == b.dev() && a.ino() == b.ino(),
+        _ => false,
+    };
+    name == "-" || pipe()
+}
+
+/// Whether a path names an open file of a process, which no other file can take the place of.
+fn is_descriptor(path: &Path) -> bool {
+    path.starts_with("/proc") || path.starts_with("/dev/fd")
+}
+
+/// The file that a name stands for, symbolic links followed, also where there is none yet. What a descriptor leads to has no name.
 fn real(path: &Path) -> PathBuf {
     const LINKS_MOST: usize = 40;
     let mut path = path.to_path_buf();
     for _ in 0..LINKS_MOST {
         match fs::read_link(&path) {
-            Ok(to) => path = path.parent().unwrap_or_else(|| Path::new("")).join(to),
-            Err(_) => break,
+            Ok(to) if !is_descriptor(&path) => path = path.parent().unwrap_or_else(|| Path::new("")).join(to),
+            _ => break,
         }
     }
     path
@@ -81,7 +105,7 @@ fn replace(path: &Path, bytes: &[u8], mode: Option<fs::Permissions>) -> io::Resu
     if mode.is_some() {
         OpenOptions::new().write(true).open(path)?;
     }
-    let (beside, mut file) = new_beside(path)?;
+    let (beside, mut file) = new_beside(path).map_err(|why| io::Error::new(why.kind(), format!("no file can be made beside it: {why}")))?;
     let written = file
         .write_all(bytes)
         .and_then(|()| mode.map_or(Ok(()), |mode| file.set_permissions(mode)))

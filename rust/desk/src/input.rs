@@ -1,5 +1,6 @@
 //! A plant from the files that a person names: text, or the bytes of the paper, in one file or in a table's and one or two of trees.
 use crate::bytes::{self, Bytes, Part};
+use crate::certificate;
 use crate::faults;
 use crate::files::{self, Trouble, INPUT_MOST};
 use crate::plant::{At, Fault, Place, Plant};
@@ -42,19 +43,18 @@ impl Input {
             }
             texts.push(Text { file, bytes });
         }
-        let binary = texts.iter().filter(|text| bytes::begins(&text.bytes)).count();
-        if binary == 0 {
-            return text::read(&texts).map(Input::of).map_err(Unread::Fault);
+        let fault = |text: &Text, reason: String| {
+            let place = Place { file: text.file.clone(), at: At::Byte(0) };
+            Err(Unread::Fault(Fault { place, reason }))
+        };
+        if let Some(text) = texts.iter().find(|text| certificate::begins(&text.bytes)) {
+            return fault(text, "this begins as a certificate does, and a plant is wanted here".into());
         }
-        match texts.iter().find(|text| !bytes::begins(&text.bytes)) {
-            Some(text) => {
-                let place = Place { file: text.file.clone(), at: At::Byte(0) };
-                Err(Unread::Fault(Fault {
-                    place,
-                    reason: "this does not begin with B1, a byte of every mark, and another file does".into(),
-                }))
-            }
-            None => Ok(Input::of_bytes(&texts)),
+        let (binary, written): (Vec<&Text>, Vec<&Text>) = texts.iter().partition(|text| bytes::begins(&text.bytes));
+        match (binary.first(), written.first()) {
+            (None, _) => text::read(&texts).map(Input::of).map_err(Unread::Fault),
+            (Some(_), None) => Ok(Input::of_bytes(&texts)),
+            (Some(bytes), Some(text)) => fault(bytes, format!("these are bytes and {} is text; a plant is all of one kind", text.file)),
         }
     }
 

@@ -40,6 +40,10 @@ fn failed(call: &Call, failure: Failure) -> u8 {
             files::say(&format!("{fault}\n"));
             TROUBLE
         }
+        Failure::NotAccepted(fault) if call.json => {
+            let report = Report { command: call.command.name, not_accepted: Some(&fault), ..Report::default() };
+            files::print(report.json().as_bytes()).map_or_else(trouble, |()| REFUSED)
+        }
         Failure::NotAccepted(fault) => {
             files::say(&format!("{fault}\n"));
             REFUSED

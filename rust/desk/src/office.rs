@@ -19,16 +19,14 @@ pub fn write(call: &Call, input: &Input) -> Done {
         .map_err(|refusal| Failure::Refused(input.refused(refusal)))?;
     bytes.truncate(length);
     files::write(output, &bytes)?;
-    let plant = input.accepted()?;
-    let said = match (call.json, certificate::read(plant, &bytes)) {
-        (true, Ok(read)) => {
-            let weight = Some(read.weight.into());
-            Report { command: "write", weight, certificate: Some(json(length, Some(true), Some(&read))), ..Report::default() }.json()
-        }
-        _ => format!("written {length}\n"),
+    let said = if call.json {
+        let weight = certificate::read(input.accepted()?, &bytes).ok().map(|read| read.weight.into());
+        Report { command: "write", weight, certificate: Some(json(length, true, None)), ..Report::default() }.json()
+    } else {
+        format!("written {length}\n")
     };
     // where the certificate itself is printed, what is said of it goes beside
-    if output == "-" {
+    if files::is_output(output) {
         files::say(&said);
         return Ok(());
     }
@@ -82,7 +80,7 @@ impl<'a> Checked<'a> {
     fn print(&self, call: &Call, report: Report, words: impl Fn() -> String) -> Done {
         let shown = call.command.name == "show";
         if call.json {
-            let certificate = json(self.length, Some(self.refused.is_none()), self.read.as_ref().filter(|_| shown));
+            let certificate = json(self.length, self.refused.is_none(), self.read.as_ref().filter(|_| shown));
             let weight = self.read.as_ref().map(|read| read.weight.into());
             let report = Report { refusal: self.refused.as_ref(), weight, certificate: Some(certificate), ..report };
             files::print(report.json().as_bytes())?;
@@ -102,7 +100,7 @@ fn fault(name: &str, item: u32, broken: Option<Broken>) -> Option<Fault> {
     Some(Fault { place: Place { file: name.into(), at: At::Byte(broken.offset) }, reason: broken.reason })
 }
 
-fn json(length: usize, accepted: Option<bool>, read: Option<&Certificate>) -> Json {
+fn json(length: usize, accepted: bool, read: Option<&Certificate>) -> Json {
     let mapping = read.map(|read| read.partners.iter().map(|&v| if v == NONE { Json::Null } else { usize::from(v).into() }).collect());
     let records = read.map(|read| read.records.iter().map(record).collect());
     Json::Object(vec![

@@ -1,4 +1,5 @@
 //! A plant as people give it: a weight table and two trees, with names for people and with the place in the input where each part stands.
+use crate::words::visible;
 use std::fmt;
 use std::rc::Rc;
 
@@ -18,9 +19,10 @@ pub enum At {
 
 impl fmt::Display for Place {
     fn fmt(&self, f: &mut fmt::Formatter<'_>) -> fmt::Result {
+        let file: String = self.file.chars().map(visible).collect();
         match self.at {
-            At::Line { line, column } => write!(f, "{}:{line}:{column}", self.file),
-            At::Byte(offset) => write!(f, "{}: byte {offset}", self.file),
+            At::Line { line, column } => write!(f, "{file}:{line}:{column}"),
+            At::Byte(offset) => write!(f, "{file}: byte {offset}"),
         }
     }
 }

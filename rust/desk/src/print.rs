@@ -1,6 +1,7 @@
 //! The text form of a plant, printed: reading it gives the same plant again.
 use crate::bytes::edge_text;
 use crate::plant::{Plant, Tree, Weights};
+use crate::words::is_bare;
 use pensummer::FORBIDDEN;
 use std::fmt::Write;
 
@@ -61,9 +62,9 @@ fn print_tree(text: &mut String, word: &str, tree: &Tree) {
 
 /// A vertex's name, in quotes where it cannot stand bare.
 fn quoted(name: &str) -> String {
-    if name.contains([' ', '\t', '"', '\\', '#', '=', '-', ':', ',']) {
-        format!("\"{}\"", name.replace('\\', "\\\\").replace('"', "\\\""))
-    } else {
+    if is_bare(name, false) {
         name.into()
+    } else {
+        format!("\"{}\"", name.replace('\\', "\\\\").replace('"', "\\\""))
     }
 }

@@ -1,6 +1,6 @@
 //! What a command found, in one shape for programs (docs/FORMAT.md): every key is always there, null where it does not apply.
 use crate::answer::{Answer, Certainty};
-use crate::changes::{rows, Row, State};
+use crate::changes::{name_elsewhere, rows, Row, State};
 use crate::input::Refused;
 use crate::json::Json;
 use crate::plant::{At, Fault, Tree, Weights};
@@ -10,6 +10,7 @@ use crate::plant::{At, Fault, Tree, Weights};
 pub struct Report<'a> {
     pub command: &'static str,
     pub refusal: Option<&'a Refused>,
+    pub not_accepted: Option<&'a Fault>,
     pub answer: Option<&'a Answer<'a>>,
     pub weight: Option<i64>,
     pub certificate: Option<Json>,
@@ -20,10 +21,11 @@ impl Report<'_> {
         let rows = self.answer.map(|answer| (answer, rows(answer)));
         let recorded = rows.as_ref().map(|(answer, rows)| recorded(answer, rows));
         let found = rows.as_ref().map(|(answer, rows)| found(answer, rows));
+        let refused = self.refusal.map(refusal).or_else(|| self.not_accepted.map(not_accepted));
         let report = Json::Object(vec![
             ("command", self.command.into()),
-            ("status", if self.refusal.is_some() { "refused" } else { "done" }.into()),
-            ("refusal", self.refusal.map(refusal).into()),
+            ("status", if refused.is_some() { "refused" } else { "done" }.into()),
+            ("refusal", refused.into()),
             ("weight", self.answer.map(|answer| answer.weight).or(self.weight).into()),
             ("recorded", recorded.into()),
             ("found", found.into()),
@@ -39,6 +41,17 @@ fn refusal(refused: &Refused) -> Json {
         ("sentence", refused.refusal.sentence().into()),
         ("place", refused.fault.as_ref().map(place).into()),
         ("reason", refused.fault.as_ref().map(|fault| fault.reason.as_str()).into()),
+    ])
+}
+
+/// Of an answer that is not accepted: no item says so.
+fn not_accepted(fault: &Fault) -> Json {
+    let sentence = "the answer is not accepted";
+    Json::Object(vec![
+        ("item", Json::Null),
+        ("sentence", sentence.into()),
+        ("place", place(fault).into()),
+        ("reason", fault.reason.as_str().into()),
     ])
 }
 
@@ -69,7 +82,7 @@ fn recorded_vertex(answer: &Answer, row: &Row) -> Json {
     let mut members = vertex(&answer.plant.recorded, &answer.plant.table.vertex, row.vertex);
     members.extend([("state", row.state.word().into()), ("partner", row.partner.into())]);
     members.extend(certainty(row.certain));
-    members.extend([("weight", weight.into()), ("edge", edge.into())]);
+    members.extend([("weight", weight.into()), ("edge", edge.into()), ("same_name", name_elsewhere(answer, row.vertex).into())]);
     Json::Object(members)
 }
 
@@ -80,7 +93,11 @@ fn found(answer: &Answer, rows: &[Row]) -> Json {
         let mut members = vertex(&answer.plant.found, &answer.plant.table.vertex, v);
         members.extend([("state", state.word().into()), ("partner", answer.back[v].into())]);
         members.extend(certainty(answer.found_certain[v]));
-        members.extend([("weight", row.map(|row| answer.pair_weight(row.vertex, v)).into()), ("edge", Json::Null)]);
+        members.extend([
+            ("weight", row.map(|row| answer.pair_weight(row.vertex, v)).into()),
+            ("edge", Json::Null),
+            ("same_name", Json::Null),
+        ]);
         Json::Object(members)
     };
     Json::List((0..answer.back.len()).map(one).collect())

@@ -7,6 +7,7 @@ use crate::input::{Input, Refused, Unread};
 use crate::plant::{Fault, Plant};
 use crate::report::Report;
 use crate::{listing, picture, print, say};
+use std::io;
 use std::rc::Rc;
 
 /// Why a command did not end well.
@@ -42,8 +43,29 @@ impl From<Unread> for Failure {
 
 type Done = Result<(), Failure>;
 
+/// What the files of a plant in three parts are called behind their prefix.
+const PARTS: [&str; 3] = ["table", "recorded", "found"];
+
+/// The files that the call writes.
+fn outputs(call: &Call) -> Vec<String> {
+    let parts = call.split.iter().flat_map(|prefix| PARTS.iter().map(move |part| format!("{prefix}.{part}")));
+    call.output.iter().cloned().chain(parts).collect()
+}
+
+/// No file is written over that is read.
+fn apart(call: &Call) -> Done {
+    for output in outputs(call) {
+        if call.inputs().any(|input| files::is_same(input, &output)) {
+            let why = io::Error::new(io::ErrorKind::InvalidInput, "this file is read and would be written over");
+            return Err(Trouble { name: output, why }.into());
+        }
+    }
+    Ok(())
+}
+
 /// Carries a call out.
 pub fn run(call: &Call) -> Done {
+    apart(call)?;
     let input = Input::read(&call.plant)?;
     match call.command.name {
         "match" => with_answer(call, &input, |answer| if call.plain { say::plain(answer) } else { say::say(answer) }),
@@ -93,7 +115,7 @@ fn title(call: &Call) -> String {
 fn write_plant(call: &Call, bytes: &Bytes) -> Done {
     match &call.split {
         Some(prefix) => {
-            for (part, content) in [("table", &bytes.table), ("recorded", &bytes.recorded), ("found", &bytes.found)] {
+            for (part, content) in PARTS.iter().zip([&bytes.table, &bytes.recorded, &bytes.found]) {
                 files::write(&format!("{prefix}.{part}"), content)?;
             }
             Ok(())

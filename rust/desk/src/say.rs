@@ -1,6 +1,6 @@
 //! A mapping in words, a line for each vertex: what is kept, changed, gone and new, and what is not certain.
 use crate::answer::{Answer, Certainty};
-use crate::changes::{counts, new_vertices, rows, Counts, Row, State};
+use crate::changes::{counts, name_elsewhere, new_vertices, rows, Counts, Row, State};
 use crate::plant::{Tree, Weights};
 
 /// A vertex for people: number, name of its own if it has one, and label.
@@ -34,9 +34,10 @@ pub fn say(answer: &Answer) -> String {
 }
 
 fn summary(answer: &Answer, c: Counts) -> String {
-    let sure = match c.unsure {
-        0 => "all certain".to_owned(),
-        unsure => format!("{unsure} not certain"),
+    let sure = match (c.unsure, c.unknown) {
+        (0, 0) => "all certain".to_owned(),
+        (unsure, 0) => format!("{unsure} not certain"),
+        (unsure, unknown) => format!("{unsure} not certain, {unknown} not known"),
     };
     format!("weight {}: {} kept, {} changed, {} gone, {} new; {sure}\n\n", answer.weight, c.kept, c.changed, c.gone, c.new)
 }
@@ -47,7 +48,11 @@ fn recorded_line(answer: &Answer, row: &Row) -> String {
         line += &format!(" is {}", found(answer, v));
         line += &changes(answer, row, v);
     }
-    line + &doubt(row.certain, |v| found(answer, v))
+    line += &doubt(row.certain, |v| found(answer, v));
+    match name_elsewhere(answer, row.vertex) {
+        Some(v) => line + &format!("; THE SAME NAME stands at {}", found(answer, v)),
+        None => line,
+    }
 }
 
 /// What differs between a vertex and its partner.
@@ -56,16 +61,26 @@ fn changes(answer: &Answer, row: &Row, v: usize) -> String {
     let mut text = String::new();
     if answer.label_changed(row.vertex, v) {
         let (was, is) = (answer.plant.recorded.label(row.vertex), answer.plant.found.label(v));
-        text += &format!("; its label was {} and is {}", table.vertex.called(was), table.vertex.called(is));
+        text += &format!("; its label was {} and is {}", called(&table.vertex, was, is), called(&table.vertex, is, was));
     }
     match (row.parent, row.edge) {
         (Some(parent), Some((was, is))) if was != is => {
             let to = answer.plant.recorded.called(parent);
-            text += &format!("; its edge to {to} was {} and is {}", table.edge.called(was), table.edge.called(is));
+            text += &format!("; its edge to {to} was {} and is {}", called(&table.edge, was, is), called(&table.edge, is, was));
         }
         _ => (),
     }
     text
+}
+
+/// A label beside another one: with its number if they have one name.
+fn called(labels: &Weights, label: usize, other: usize) -> String {
+    let name = labels.called(label);
+    if name == labels.called(other) {
+        format!("{name} ({label})")
+    } else {
+        name
+    }
 }
 
 fn found_line(answer: &Answer, v: usize) -> String {
@@ -87,7 +102,7 @@ fn doubt(certain: Certainty, called: impl Fn(usize) -> String) -> String {
         Certainty::Certain => String::new(),
         Certainty::Otherwise(None) => "; NOT CERTAIN: as heavy without this pair".into(),
         Certainty::Otherwise(Some(other)) => format!("; NOT CERTAIN: as heavy with {}", called(other)),
-        Certainty::Unknown => "; NOT KNOWN to be certain: the table has no room to ask".into(),
+        Certainty::Unknown => "; NOT KNOWN to be certain: to ask takes a label or a weight beyond the limits".into(),
     }
 }
 

@@ -1,6 +1,6 @@
 //! Reading the table's part of a plant's text: numbers of labels, names, and the weights, as rows or shortly.
 use crate::plant::{Fault, Place, Table, Weights};
-use crate::words::{is_digits, tidy, Line, Part, Word};
+use crate::words::{is_bare, is_digits, many, quote, tidy, Line, Part, Word};
 use pensummer::FORBIDDEN;
 
 /// Vertex labels or edge labels while they are read.
@@ -27,16 +27,28 @@ pub fn label_of(part: &Part, place: &Place, kind: &str, names: &[String]) -> Res
     if part.is_number() {
         return match part.byte() {
             Some(label) => Ok(label),
-            None => fault(format!("a label is a number from 0 to 255 or a name, not `{}`", part.text)),
+            None => fault(format!("a label is a number from 0 to 255 or a name, not {}", quote(&part.text))),
         };
+    }
+    if !part.quoted && !is_bare(&part.text, true) {
+        return fault(format!("{} has a character that must stand in quotes", quote(&part.text)));
     }
     let name = tidy(&part.text);
     let mut found = names.iter().enumerate().filter(|(_, other)| **other == name).map(|(at, _)| at as u8);
     match (found.next(), found.next()) {
         (Some(label), None) => Ok(label),
-        (Some(first), Some(second)) => fault(format!("`{name}` is the name of the {kind} labels {first} and {second}; give the number")),
-        (None, _) => fault(format!("no {kind} label is named `{name}`")),
+        (Some(a), Some(b)) => fault(format!("{} is the name of the {kind} labels {a} and {b}; give the number", quote(&name))),
+        (None, _) => fault(format!("no {kind} label is named {}{}", quote(&name), hint(&name, names))),
     }
+}
+
+/// A name that may have been meant.
+fn hint(name: &str, names: &[String]) -> String {
+    if names.iter().any(|other| other.len() > 2 && other.trim_matches('"') == name) {
+        return "; in a line of names quotes belong to the name".into();
+    }
+    let near = names.iter().find(|other| other.to_lowercase() == name.to_lowercase());
+    near.map_or(String::new(), |near| format!("; there is {}", quote(near)))
 }
 
 /// A weight: a number of 32 bits, or `forbidden`.
@@ -49,7 +61,7 @@ fn weight(line: &Line, word: Word) -> Result<(i32, Place), Fault> {
     };
     match number {
         Some(number) => Ok((number, line.place(word.column))),
-        None => line.fault(word.column, format!("a weight is a number of 32 bits or `forbidden`, not `{}`", word.text)),
+        None => line.fault(word.column, format!("a weight is a number of 32 bits or `forbidden`, not {}", quote(word.text))),
     }
 }
 
@@ -65,12 +77,17 @@ impl Labels {
         }
         let blank = line.text.len() - line.text.trim_start_matches([' ', '\t']).len();
         let rest = &line.text[blank + first.text.len()..];
-        let names: Vec<String> = rest.split(',').map(tidy).collect();
-        if let Some(at) = names.iter().position(String::is_empty) {
-            return line.fault(first.column, format!("name {} is empty", at + 1));
+        let mut names = Vec::new();
+        let mut column = first.column + first.text.chars().count();
+        for part in rest.split(',') {
+            names.push(tidy(part));
+            if names.last().map_or(false, String::is_empty) {
+                return line.fault(column, format!("name {} is empty", names.len()));
+            }
+            column += part.chars().count() + 1;
         }
         if names.len() != self.count {
-            return line.fault(first.column, format!("there are {} names, not {}", names.len(), self.count));
+            return line.fault(first.column, format!("here are {}; there are to be {}", many(names.len(), "name", "names"), self.count));
         }
         self.names = Some(names);
         Ok(())
@@ -82,10 +99,11 @@ impl Labels {
             return line.fault(words[0].column, format!("weights of {kind} labels are given shortly already; rows do not stand beside"));
         }
         if self.rows.len() == count {
-            return line.fault(words[0].column, format!("there are {count} `{kind}` rows; this is one too many"));
+            return line.fault(words[0].column, format!("this `{kind}` row is one too many; there are to be {count}"));
         }
         if words.len() - 1 != count {
-            return line.fault(words[0].column, format!("this row has {} weights, not {count}", words.len() - 1));
+            let column = words.get(count + 1).map_or(words[0].column, |word| word.column);
+            return line.fault(column, format!("this row has {}; there are to be {count}", many(words.len() - 1, "weight", "weights")));
         }
         let row = words[1..].iter().map(|&word| weight(line, word)).collect::<Result<_, _>>()?;
         self.rows.push(row);
@@ -137,7 +155,7 @@ impl Labels {
         }
         if self.rows.len() != self.count {
             let (count, kind, rows) = (self.count, self.kind, self.rows.len());
-            let reason = format!("there are {count} `{kind}` rows before the trees, not {rows}; or give `{kind}-default`");
+            let reason = format!("there are {rows} `{kind}` rows before this; there are to be {count}, or a `{kind}-default`");
             return Err(Fault { place: end.clone(), reason });
         }
         let (rows, places) = self.rows.into_iter().map(|row| row.into_iter().unzip()).unzip();
@@ -189,7 +207,7 @@ impl TableText {
     /// The line `labels K L`.
     pub fn begin(line: &Line, words: &[Word]) -> Result<TableText, Fault> {
         if words[0].text != "labels" {
-            return line.fault(words[0].column, format!("the first line is `labels K L`, not `{}`", words[0].text));
+            return line.fault(words[0].column, format!("the first line is `labels K L`, not {}", quote(words[0].text)));
         }
         if words.len() != 3 {
             return line.fault(words[0].column, "`labels` has two numbers: vertex labels and edge labels");
@@ -198,7 +216,7 @@ impl TableText {
             let part = Part { text: word.text.into(), quoted: false, column: word.column };
             match part.byte() {
                 Some(count) => Ok(count.into()),
-                None => line.fault(word.column, format!("a count is a number from 0 to 255, not `{}`", word.text)),
+                None => line.fault(word.column, format!("a count is a number from 0 to 255, not {}", quote(word.text))),
             }
         };
         let (vertex, edge) = (Labels::new("vertex", count(words[1])?), Labels::new("edge", count(words[2])?));
@@ -234,6 +252,8 @@ fn unknown(line: &Line, word: Word) -> Result<(), Fault> {
     match word.text {
         "labels" => line.fault(word.column, "`labels` stands once, and first"),
         "found" => line.fault(word.column, "`found` stands once, after the recorded tree"),
-        other => line.fault(word.column, format!("`{other}` is none of `vertex`, `edge`, `recorded` and their kin; see docs/FORMAT.md")),
+        other => {
+            line.fault(word.column, format!("{} is none of `vertex`, `edge`, `recorded` and their kin; see docs/FORMAT.md", quote(other)))
+        }
     }
 }

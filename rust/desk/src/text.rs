@@ -3,7 +3,7 @@ use crate::lines::each_line;
 use crate::plant::{Fault, Place, Plant, Table, Tree};
 use crate::table_text::TableText;
 use crate::tree_text::TreeText;
-use crate::words::{Line, Word};
+use crate::words::{quote, Line, Word};
 use std::rc::Rc;
 
 /// A text and the name of its file.
@@ -100,7 +100,7 @@ impl File {
             "recorded" => (),
             "tree" if self.of == 3 => (),
             "found" if self.of == 3 => return line.fault(words[0].column, "this is a found tree, and the recorded one belongs here"),
-            other => return line.fault(words[0].column, format!("the recorded tree begins with `recorded`, not `{other}`")),
+            other => return line.fault(words[0].column, format!("the recorded tree begins with `recorded`, not {}", quote(other))),
         }
         let tree = TreeText::begin(line, words, &table)?;
         Ok(State::InRecorded(table, tree))
@@ -115,7 +115,7 @@ impl File {
             "found" => (),
             "tree" if self.of == 3 => (),
             "recorded" => return line.fault(words[0].column, "`recorded` stands once, and the found tree belongs here"),
-            other => return line.fault(words[0].column, format!("the found tree begins with `found`, not `{other}`")),
+            other => return line.fault(words[0].column, format!("the found tree begins with `found`, not {}", quote(other))),
         }
         let tree = TreeText::begin(line, words, &table)?;
         Ok(State::InFound(table, recorded, tree))

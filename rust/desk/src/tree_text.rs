@@ -1,7 +1,7 @@
 //! Reading a tree's part of a plant's text: vertices with labels and perhaps names, and edges.
 use crate::plant::{Edge, Fault, Place, Table, Tree, Vertex};
 use crate::table_text::label_of;
-use crate::words::{is_digits, Line, Part, Word};
+use crate::words::{is_bare, is_digits, quote, Line, Part, Word};
 
 /// A count of vertices is a byte.
 const VERTICES_WRITTEN: usize = 255;
@@ -24,6 +24,7 @@ impl TreeText {
     /// The line that begins the tree: its word, and vertices.
     pub fn begin(line: &Line, words: &[Word], table: &Table) -> Result<TreeText, Fault> {
         let mut tree = TreeText { place: line.place(words[0].column), vertices: Vec::new(), edges: Vec::new() };
+        closed_up(line, &words[1..])?;
         for &word in &words[1..] {
             tree.read_vertex(line, word, table)?;
         }
@@ -32,6 +33,7 @@ impl TreeText {
 
     /// A further line of the tree: edges, and vertices with names.
     pub fn read(&mut self, line: &Line, words: &[Word], table: &Table) -> Result<(), Fault> {
+        closed_up(line, words)?;
         for &word in words {
             let parts = line.parts(word, &['=', '-', ':'])?;
             if parts[0].1 == Some('=') {
@@ -47,7 +49,7 @@ impl TreeText {
     fn read_vertex(&mut self, line: &Line, word: Word, table: &Table) -> Result<(), Fault> {
         let mut parts = line.parts(word, &['='])?;
         if parts.len() > 2 {
-            return line.fault(word.column, format!("a vertex is a label, or a name and a label as P1=2, not `{}`", word.text));
+            return line.fault(word.column, format!("a vertex is a label, or a name and a label as P1=2, not {}", quote(word.text)));
         }
         if self.vertices.len() == VERTICES_WRITTEN {
             return line.fault(word.column, format!("more than {VERTICES_WRITTEN} vertices"));
@@ -63,13 +65,13 @@ impl TreeText {
     /// A vertex's name, which no other has and which is no number.
     fn new_name(&self, line: &Line, part: Part) -> Result<String, Fault> {
         if is_digits(&part.text) {
-            return line.fault(part.column, format!("a vertex's name is no number, and `{}` is one", part.text));
+            return line.fault(part.column, format!("a vertex's name is no number, and {} is one", quote(&part.text)));
         }
-        if !part.quoted && part.text.contains(['-', ':', ',']) {
-            return line.fault(part.column, format!("a name with `-`, `:` or `,` stands in quotes, as \"{}\"", part.text));
+        if !part.quoted && !is_bare(&part.text, false) {
+            return line.fault(part.column, format!("{} has a character that must stand in quotes", quote(&part.text)));
         }
         match self.number_of(&part.text) {
-            Some(other) => line.fault(part.column, format!("vertex {other} is named `{}` already", part.text)),
+            Some(other) => line.fault(part.column, format!("vertex {other} is named {} already", quote(&part.text))),
             None => Ok(part.text),
         }
     }
@@ -81,7 +83,7 @@ impl TreeText {
 
     /// `END-END` or `END-END:LABEL`.
     fn read_edge(&mut self, line: &Line, word: Word, table: &Table) -> Result<(), Fault> {
-        let shape = || line.fault(word.column, format!("an edge is two vertices and a label, as 0-1 or 0-1:2, not `{}`", word.text));
+        let shape = || line.fault(word.column, format!("an edge is two vertices and a label, as 0-1 or 0-1:2, not {}", quote(word.text)));
         let (ends, label) = match word_label(word.text) {
             Some(at) => (&word.text[..at], Some(&word.text[at + 1..])),
             None => (word.text, None),
@@ -118,13 +120,32 @@ impl TreeText {
         if part.is_number() {
             return match part.byte() {
                 Some(vertex) => Ok(vertex),
-                None => fault(format!("a vertex is a number from 0 to 255 or a name, not `{}`", part.text)),
+                None => fault(format!("a vertex is a number from 0 to 255 or a name, not {}", quote(&part.text))),
             };
+        }
+        if !part.quoted && !is_bare(&part.text, false) {
+            return fault(format!("{} has a character that must stand in quotes", quote(&part.text)));
         }
         match self.number_of(&part.text) {
             Some(vertex) => Ok(vertex),
-            None => fault(format!("no vertex of this tree is named `{}`", part.text)),
+            None => {
+                let names = self.vertices.iter().filter_map(|vertex| vertex.name.as_ref());
+                let near = names.into_iter().find(|name| name.to_lowercase() == part.text.to_lowercase());
+                let hint = near.map_or(String::new(), |near| format!("; there is {}", quote(near)));
+                fault(format!("no vertex of this tree is named {}{hint}", quote(&part.text)))
+            }
         }
+    }
+}
+
+/// No word of a tree begins or ends with what joins its parts: there was a blank beside it.
+fn closed_up(line: &Line, words: &[Word]) -> Result<(), Fault> {
+    const JOINS: [char; 3] = ['-', '=', ':'];
+    match words.iter().find(|word| word.text.starts_with(JOINS) || word.text.ends_with(JOINS)) {
+        Some(word) => {
+            line.fault(word.column, format!("something is missing at {}; no blanks stand around `-`, `=` and `:`", quote(word.text)))
+        }
+        None => Ok(()),
     }
 }
 

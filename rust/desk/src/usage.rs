@@ -21,7 +21,8 @@ pub const COMMANDS: [Command; 8] = [
         about: "match the two trees and say it in words: kept, changed, gone, new",
         help: "A heaviest mapping of the two trees, a line for each vertex. A vertex is `kept` if its partner has its label and the edge to the\n\
                vertex above it has the same label; `changed` if one of these differs; `gone` if it is recorded and has no partner; `new` if it\n\
-               is found and has none. What another mapping as heavy says otherwise is NOT CERTAIN: decide it by eye.",
+               is found and has none. What another mapping as heavy says otherwise is NOT CERTAIN: decide it by eye.\n\
+               Labels and edges decide; names of vertices weigh nothing. Where a name stands at another vertex now, that is said.",
     },
     Command {
         name: "listing",
@@ -81,13 +82,14 @@ pub const COMMANDS: [Command; 8] = [
         certificate: true,
         options: &["--json"],
         about: "show what a certificate holds, and which rule it breaks if it does",
-        help: "The weight, the mapping, and each subproblem's value and duals, also of a certificate that is not accepted.",
+        help: "The weight, the mapping, and each subproblem's value and duals, also of a certificate that is not accepted, unless its form is\n\
+               wrong (item 20).",
     },
 ];
 
 pub const PLANTS: &str = "\
 PLANT.. is one to three files: a whole plant; or a table and a file with both trees; or a table, the recorded tree and the found tree.
-Each is text (docs/FORMAT.md), or bytes, which begin with B1. `-` is standard input.
+They are text (docs/FORMAT.md), or bytes, which begin with B1. `-` is standard input.
 ";
 
 pub const OPTIONS: [(&str, &str, &str); 5] = [

@@ -48,6 +48,35 @@ pub fn is_digits(text: &str) -> bool {
     !text.is_empty() && text.bytes().all(|b| b.is_ascii_digit())
 }
 
+/// Whether a name may stand without quotes: letters, digits, `_`, `.`, what is beyond ASCII, and within a label's name `-`.
+pub fn is_bare(name: &str, hyphen: bool) -> bool {
+    let plain = |c: char| c.is_ascii_alphanumeric() || !c.is_ascii() || c == '_' || c == '.' || hyphen && c == '-';
+    name.chars().all(plain) && !name.starts_with('-') && !name.ends_with('-')
+}
+
+/// What a person wrote, for a message: cut where it is long, control characters made visible.
+pub fn quote(text: &str) -> String {
+    const LONGEST: usize = 40;
+    let short: String = text.chars().take(LONGEST).map(visible).collect();
+    let rest = if text.chars().count() > LONGEST { ".." } else { "" };
+    format!("`{short}{rest}`")
+}
+
+/// A character that can be printed in place of one that steers a terminal.
+pub fn visible(c: char) -> char {
+    let steers = c.is_control() || matches!(c, '\u{200B}'..='\u{200F}' | '\u{202A}'..='\u{202E}' | '\u{2066}'..='\u{2069}');
+    if steers {
+        char::REPLACEMENT_CHARACTER
+    } else {
+        c
+    }
+}
+
+/// A count with its noun.
+pub fn many(count: usize, one: &str, more: &str) -> String {
+    format!("{count} {}", if count == 1 { one } else { more })
+}
+
 pub fn is_blank(c: char) -> bool {
     c == ' ' || c == '\t'
 }
@@ -104,7 +133,11 @@ impl<'a> Line<'a> {
         loop {
             let column = rest.column;
             let quoted = rest.text.peek() == Some(&'"');
-            let text = if quoted { tidy(&rest.quoted()) } else { rest.bare(separators) };
+            let text = match quoted {
+                true => rest.quoted().map(|name| tidy(&name)),
+                false => Ok(rest.bare(separators)),
+            };
+            let text = text.or_else(|column| self.fault(column, "in quotes `\\` stands before a quote or another `\\`"))?;
             if text.is_empty() {
                 return self.fault(column, "a name or a number is missing here");
             }
@@ -131,18 +164,21 @@ impl Cursor<'_> {
         self.text.next()
     }
 
-    /// A name in quotes, which are closed; `\` stands before a quote or another `\` that is meant.
-    fn quoted(&mut self) -> String {
+    /// A name in quotes, which are closed; `\` stands before a quote or another `\` that is meant. Else the column of one that does not.
+    fn quoted(&mut self) -> Result<String, usize> {
         let mut name = String::new();
         self.next();
         while let Some(c) = self.next() {
             match c {
                 '"' => break,
-                '\\' => name.extend(self.next()),
+                '\\' => match self.next() {
+                    Some(c) if c == '"' || c == '\\' => name.push(c),
+                    _ => return Err(self.column - 2),
+                },
                 c => name.push(c),
             }
         }
-        name
+        Ok(name)
     }
 
     /// What stands before the next separator or quote.

@@ -14,7 +14,7 @@ const RULES: [(u32, &str); 17] = [
     (20, "where the mark"),
     (20, "the certificate says that the recorded tree"),
     (20, "the certificate says that the found tree"),
-    (20, "bytes; one of these two trees has"),
+    (20, "bytes; that of these two trees has"),
     (21, "a partner is a found vertex"),
     (21, "have the same partner"),
     (21, "the pair of their edges"),
@@ -172,7 +172,7 @@ fn every_length() {
             other.resize(length, 0);
             let fault = fault(&plant, &other).expect("the length is wrong");
             assert_eq!((fault.item, fault.offset), (20, length.min(bytes.len())));
-            assert_eq!(fault.reason, format!("the certificate has {length} bytes; one of these two trees has {}", bytes.len()));
+            assert_eq!(fault.reason, format!("the certificate has {length} bytes; that of these two trees has {}", bytes.len()));
             assert_eq!(library.item(&other), 20);
         }
     }
@@ -216,11 +216,11 @@ fn form() {
     mark(3, 0, "the certificate says that the found tree has 0 vertices; it has 1");
     mark(9, 3, "the byte is 03, where the mark C1 02 of the partner of recorded 0 has 02");
     mark(11, 0, "the byte is 00, where the mark C1 03 of the record of recorded 0 with found 0 has C1");
-    refused(&plant, &[], 20, 0, "the certificate has 0 bytes; one of these two trees has 17");
-    refused(&plant, &SHEET_9[..16], 20, 16, "the certificate has 16 bytes; one of these two trees has 17");
-    refused(&plant, &[&SHEET_9[..], &[0]].concat(), 20, 17, "the certificate has 18 bytes; one of these two trees has 17");
+    refused(&plant, &[], 20, 0, "the certificate has 0 bytes; that of these two trees has 17");
+    refused(&plant, &SHEET_9[..16], 20, 16, "the certificate has 16 bytes; that of these two trees has 17");
+    refused(&plant, &[&SHEET_9[..], &[0]].concat(), 20, 17, "the certificate has 18 bytes; that of these two trees has 17");
     let both = "the certificate says that the found tree has 7 vertices; it has 1; \
-                also, the certificate has 16 bytes; one of these two trees has 17";
+                also, the certificate has 16 bytes; that of these two trees has 17";
     refused(&plant, &with(&SHEET_9, 3, &[7])[..16], 20, 3, both);
 }
 
