@@ -18,7 +18,7 @@
  * length: to check what was written, pass the length that was given back.
  *
  * The calls need stack: measured on x86-64, the most was just below 65,000 bytes, for two equal paths of 64 vertices
- * (docs/BENCHMARKS.md). That is no proved limit: leave room.
+ * (README.md, "For firmware", has each call's). That is no proved limit: leave room.
  *
  * There are n(3m - 2) subproblems, never more than 12,160. */
 #ifndef PENSUMMER_H

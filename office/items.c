@@ -28,7 +28,7 @@ static const char *const sentences[] = {
     [PENSUMMER_CERTIFICATE_MAPPING] = "the certificate's mapping breaks a rule",
     [PENSUMMER_CERTIFICATE_WEIGHT] = "the certificate's weight is not its mapping's",
     [PENSUMMER_CERTIFICATE_RECORD] = "a subproblem record of the certificate breaks a rule",
-    [PENSUMMER_CERTIFICATE_ANSWER] = "the certificate's weight is not the greater of 0 and its largest value",
+    [PENSUMMER_CERTIFICATE_ANSWER] = "the certificate's weight is not the greater of 0 and its largest value with s = v",
 };
 
 const char *item_sentence(uint32_t refusal) {

@@ -4,15 +4,18 @@ use std::env;
 use std::path::{Path, PathBuf};
 use std::process::{exit, Command, Stdio};
 
+/// The variable that names a folder with an archive.
+const NAMED: &str = "PENSUMMER_ARCHIVE";
+
 fn main() {
-    println!("cargo:rerun-if-env-changed=PENSUMMER_ARCHIVE");
-    let folder = match env::var_os("PENSUMMER_ARCHIVE") {
+    println!("cargo:rerun-if-env-changed={NAMED}");
+    let folder = match env::var_os(NAMED).filter(|folder| !folder.is_empty()) {
         Some(folder) => PathBuf::from(folder),
         None => made(&root()),
     };
     let archive = folder.join("libpensummer.a");
-    if !archive.is_file() {
-        give_up(&format!("there is no {}", archive.display()));
+    if !folder.is_absolute() || !archive.is_file() {
+        give_up(&format!("{NAMED} names a folder by its whole path that has libpensummer.a; {} is none", folder.display()));
     }
     println!("cargo:rerun-if-changed={}", archive.display());
     println!("cargo:rustc-link-search=native={}", folder.display());
@@ -27,16 +30,17 @@ fn root() -> PathBuf {
 
 /// The folder of the repository's archive, after it was made where it was missing or stale.
 fn made(root: &Path) -> PathBuf {
+    if env::var("CARGO_CFG_TARGET_ARCH").as_deref() != Ok("x86_64") {
+        give_up(&format!("the kit builds the archive for x86-64 only; {NAMED} may name a folder with one for this target"));
+    }
     for source in ["crates", "crates.txt", "tools/archive"] {
         println!("cargo:rerun-if-changed={}", root.join(source).display());
     }
     let script = root.join("tools/archive");
     match Command::new(&script).stdin(Stdio::null()).status() {
         Ok(status) if status.success() => root.join("target/staticlib"),
-        Ok(_) => give_up("the archive could not be made; what tools/archive said stands above"),
-        Err(why) => {
-            give_up(&format!("cannot run {}: {why}; PENSUMMER_ARCHIVE may name a folder that has libpensummer.a", script.display()))
-        }
+        Ok(_) => give_up(&format!("the archive could not be made, as said above; {NAMED} may name a folder that has one")),
+        Err(why) => give_up(&format!("cannot run {}: {why}; {NAMED} may name a folder that has the archive", script.display())),
     }
 }
 

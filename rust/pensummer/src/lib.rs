@@ -29,7 +29,7 @@ pub const DEGREE_MOST: usize = 8;
 pub const VERTEX_LABELS_MOST: usize = 32;
 /// A table has no more edge labels.
 pub const EDGE_LABELS_MOST: usize = 8;
-/// A weight is no greater, and its negative no less, unless it is [`FORBIDDEN`].
+/// A weight is no greater, and no less than the negative of this, unless it is [`FORBIDDEN`].
 pub const WEIGHT_MOST: i32 = 1_000_000;
 /// The weight of a pair that no mapping may have.
 pub const FORBIDDEN: i32 = i32::MIN;
@@ -90,7 +90,7 @@ pub fn match_trees(i: Inputs, work: &mut [i32], mapping: &mut [u8]) -> Result<i3
 }
 
 impl Job {
-    /// A record of no job: idle, all numbers 0.
+    /// A record of no job: 1 in `idle`, 0 in the others.
     pub fn fresh() -> Job {
         unsafe { ffi::pensummer_fresh() }
     }

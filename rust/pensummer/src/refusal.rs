@@ -43,7 +43,7 @@ items! {
     CERTIFICATE_MAPPING = 21, "the certificate's mapping breaks a rule";
     CERTIFICATE_WEIGHT = 22, "the certificate's weight is not its mapping's";
     CERTIFICATE_RECORD = 23, "a subproblem record of the certificate breaks a rule";
-    CERTIFICATE_ANSWER = 24, "the certificate's weight is not the greater of 0 and its largest value";
+    CERTIFICATE_ANSWER = 24, "the certificate's weight is not the greater of 0 and its largest value with s = v";
 }
 
 impl Refusal {
