@@ -3,7 +3,8 @@ use crate::bytes::Bytes;
 use crate::certainty;
 use crate::graph::Graph;
 use crate::plant::{At, Fault, Place, Plant};
-use crate::words::quote;
+use crate::text::Text;
+use crate::words::{is_digits, quote};
 use pensummer::{Refusal, FORBIDDEN, NONE, VERTICES_MOST, WORK_MOST};
 use std::rc::Rc;
 
@@ -60,10 +61,10 @@ impl<'a> Answer<'a> {
         Ok(Answer::with(plant, weight.into(), partner))
     }
 
-    /// The answer that the match program printed, as the file `name` has it.
-    pub fn read(plant: &'a Plant, bytes: &Bytes, name: &Rc<str>, text: &[u8]) -> Result<Answer<'a>, Wrong> {
+    /// The answer that the match program printed, as a file has it.
+    pub fn read(plant: &'a Plant, bytes: &Bytes, text: &Text) -> Result<Answer<'a>, Wrong> {
         let (best, _) = heaviest(bytes).map_err(Wrong::Refused)?;
-        let lines = Lines::of(name, text);
+        let lines = Lines::of(&text.file, &text.bytes);
         let (weight, partner) = lines.partners(plant).map_err(Wrong::Malformed)?;
         let answer = Answer::unsure(plant, weight, partner);
         answer.test(&lines, best.into()).map_err(Wrong::NotAccepted)?;
@@ -194,6 +195,11 @@ impl<'a> Answer<'a> {
     }
 }
 
+/// Digits, after a sign or not.
+fn is_number(text: &&str) -> bool {
+    is_digits(text.strip_prefix('-').unwrap_or(text))
+}
+
 /// The lines of a printed answer.
 struct Lines<'a> {
     name: &'a Rc<str>,
@@ -218,7 +224,7 @@ impl<'a> Lines<'a> {
 
     /// The weight and the partners, or the line that is none of an answer for this plant.
     fn partners(&self, plant: &Plant) -> Result<(i64, Vec<Option<usize>>), Fault> {
-        let weight = match self.line(1).strip_prefix("weight ").and_then(|number| number.parse().ok()) {
+        let weight = match self.line(1).strip_prefix("weight ").filter(is_number).and_then(|number| number.parse().ok()) {
             Some(weight) => weight,
             None => return self.fault(1, format!("the first line is `weight` and a number, not {}", quote(self.line(1)))),
         };
@@ -241,8 +247,8 @@ impl<'a> Lines<'a> {
         let partner = self.line(at).strip_prefix(&format!("{u} "));
         match partner.map(|v| (v, v.parse())) {
             Some(("-", _)) => Ok(None),
-            Some((_, Ok(v))) if v < found => Ok(Some(v)),
-            Some((_, Ok(v))) => self.fault(at, format!("the found tree has no vertex {v}")),
+            Some((text, Ok(v))) if v < found && is_digits(text) => Ok(Some(v)),
+            Some((text, Ok(v))) if is_digits(text) => self.fault(at, format!("the found tree has no vertex {v}")),
             _ => self.fault(at, format!("this line has recorded vertex {u} and its partner or `-`, not {}", quote(self.line(at)))),
         }
     }

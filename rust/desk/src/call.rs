@@ -129,6 +129,9 @@ fn tested(call: Call) -> Result<Call, String> {
     if call.inputs().chain(&call.output).chain(&call.split).any(String::is_empty) {
         return Err("a file name is empty".into());
     }
+    if call.split.as_deref() == Some("-") {
+        return Err("`--split` writes three files; `-` is no prefix for them".into());
+    }
     if inputs.filter(|name| *name == "-").count() > 1 {
         return Err("standard input can be read once".into());
     }
@@ -141,8 +144,9 @@ fn tested(call: Call) -> Result<Call, String> {
     if call.command.name == "write" && call.output.is_none() {
         return Err("`-o CERTIFICATE` is wanted".into());
     }
-    if call.plain && call.json || call.output.is_some() && call.split.is_some() {
-        return Err("these two options do not go together".into());
+    let together = [(call.plain && call.json, "--plain", "--json"), (call.output.is_some() && call.split.is_some(), "--output", "--split")];
+    if let Some((_, one, other)) = together.iter().find(|(both, ..)| *both) {
+        return Err(format!("`{one}` and `{other}` do not go together"));
     }
     Ok(call)
 }

@@ -1,6 +1,6 @@
 //! Where in its input a refused plant is at fault, for people. The number of the item is the library's; this finds the place that it is about.
 use crate::plant::{Fault, Place, Plant, Tree, Weights};
-use crate::words::many;
+use crate::words::{many, shown};
 use pensummer::{DEGREE_MOST, EDGE_LABELS_MOST, FORBIDDEN, VERTEX_LABELS_MOST, VERTICES_MOST, WEIGHT_MOST};
 
 /// What item `item`, which refused the plant, is about; none if that item does not apply by this reading.
@@ -70,9 +70,9 @@ fn loose(tree: &Tree) -> Option<usize> {
     for _ in 0..tree.size() {
         for edge in &tree.edges {
             let [a, b] = edge.ends.map(usize::from);
-            let near = *reached.get(a)? || *reached.get(b)?;
-            reached[a] = near;
-            reached[b] = near;
+            let (one, other) = (*reached.get(a)?, *reached.get(b)?);
+            reached[a] = one || other;
+            reached[b] = one || other;
         }
     }
     reached.iter().position(|there| !there)
@@ -85,12 +85,12 @@ fn labels(plant: &Plant, tree: &Tree) -> Option<Fault> {
         return found(&vertex.place, reason);
     }
     let edge = tree.edges.iter().find(|edge| usize::from(edge.label) >= most_edge)?;
-    found(&edge.place, format!("the edge {} has label {}, and labels are 0 to {}", edge.text, edge.label, most_edge - 1))
+    found(&edge.place, format!("the edge {} has label {}, and labels are 0 to {}", shown(&edge.text), edge.label, most_edge - 1))
 }
 
 fn ends(tree: &Tree) -> Option<Fault> {
     let edge = tree.edges.iter().find(|edge| edge.ends.iter().any(|&end| usize::from(end) >= tree.size()))?;
-    found(&edge.place, format!("the edge {} names a vertex that is not there; vertices are 0 to {}", edge.text, tree.size() - 1))
+    found(&edge.place, format!("the edge {} names a vertex that is not there; vertices are 0 to {}", shown(&edge.text), tree.size() - 1))
 }
 
 /// The first edge whose ends are connected by the edges before it.
@@ -101,7 +101,7 @@ fn loops(tree: &Tree) -> Option<Fault> {
         let (kept, gone) = (*part.get(a)?, *part.get(b)?);
         if kept == gone {
             let how = if a == b { "joins a vertex with itself" } else { "closes a loop" };
-            return found(&edge.place, format!("the edge {} {how}", edge.text));
+            return found(&edge.place, format!("the edge {} {how}", shown(&edge.text)));
         }
         part.iter_mut().filter(|of| **of == gone).for_each(|of| *of = kept);
     }
@@ -115,7 +115,8 @@ fn degrees(tree: &Tree) -> Option<Fault> {
         for end in edge.ends.map(usize::from) {
             *degree.get_mut(end)? += 1;
             if degree[end] > DEGREE_MOST {
-                let reason = format!("the edge {} is one more than the {DEGREE_MOST} that vertex {} may have", edge.text, tree.called(end));
+                let reason =
+                    format!("the edge {} is one more than the {DEGREE_MOST} that vertex {} may have", shown(&edge.text), tree.called(end));
                 return found(&edge.place, reason);
             }
         }

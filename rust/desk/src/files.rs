@@ -2,7 +2,8 @@
 //! its mode and is either whole or as it was.
 use std::fs::{self, File, OpenOptions};
 use std::io::{self, Read, Write};
-use std::os::unix::fs::{FileTypeExt, MetadataExt};
+use std::os::unix::fs::{FileTypeExt, MetadataExt, OpenOptionsExt};
+use std::os::unix::io::AsRawFd;
 use std::path::{Path, PathBuf};
 
 /// No input of a plant is longer, in bytes.
@@ -56,7 +57,7 @@ pub fn write(name: &str, bytes: &[u8]) -> Result<(), Trouble> {
     }
     let path = real(Path::new(name));
     let written = match fs::metadata(&path) {
-        Ok(there) if there.is_file() && !is_descriptor(&path) => replace(&path, bytes, Some(there.permissions())),
+        Ok(there) if there.is_file() && !is_descriptor(&path) => replace(&path, bytes, Some(there)),
         // what is open already is not overwritten from its start: the bytes go behind what its owner wrote
         Ok(there) => OpenOptions::new().write(true).append(there.is_file()).open(&path).and_then(|mut file| file.write_all(bytes)),
         Err(why) if why.kind() == io::ErrorKind::NotFound && !is_descriptor(&path) => replace(&path, bytes, None),
@@ -100,15 +101,18 @@ fn real(path: &Path) -> PathBuf {
     path
 }
 
-/// Writes beside the file and moves it there. A file that is there must be writable.
-fn replace(path: &Path, bytes: &[u8], mode: Option<fs::Permissions>) -> io::Result<()> {
-    if mode.is_some() {
+/// Writes beside the file and moves it there. A file that is there, which `old` says, must be writable.
+fn replace(path: &Path, bytes: &[u8], old: Option<fs::Metadata>) -> io::Result<()> {
+    if old.is_some() {
         OpenOptions::new().write(true).open(path)?;
     }
-    let (beside, mut file) = new_beside(path).map_err(|why| io::Error::new(why.kind(), format!("no file can be made beside it: {why}")))?;
-    let written = file
-        .write_all(bytes)
-        .and_then(|()| mode.map_or(Ok(()), |mode| file.set_permissions(mode)))
+    // what an old file keeps to itself is not shown for a moment
+    let mode = if old.is_some() { 0o600 } else { 0o666 };
+    let (beside, mut file) =
+        new_beside(path, mode).map_err(|why| io::Error::new(why.kind(), format!("no file can be made beside it: {why}")))?;
+    let written = old
+        .map_or(Ok(()), |old| dress(&file, &old))
+        .and_then(|()| file.write_all(bytes))
         .and_then(|()| file.sync_all())
         .and_then(|()| fs::rename(&beside, path));
     if written.is_err() {
@@ -117,16 +121,23 @@ fn replace(path: &Path, bytes: &[u8], mode: Option<fs::Permissions>) -> io::Resu
     written
 }
 
-/// A new file in the same folder.
-fn new_beside(path: &Path) -> io::Result<(PathBuf, File)> {
-    let name = path.file_name().ok_or_else(|| io::Error::from(io::ErrorKind::InvalidInput))?;
+extern "C" {
+    fn fchown(file: i32, owner: u32, group: u32) -> i32;
+}
+
+/// Gives a file the owner of an old one, where that is allowed, and its mode.
+fn dress(file: &File, old: &fs::Metadata) -> io::Result<()> {
+    // SAFETY: the descriptor is open; C's function takes three numbers
+    unsafe { fchown(file.as_raw_fd(), old.uid(), old.gid()) };
+    file.set_permissions(old.permissions())
+}
+
+/// A new file in the same folder, with a mode that the mask may lessen.
+fn new_beside(path: &Path, mode: u32) -> io::Result<(PathBuf, File)> {
     let mut number = 0u32;
     loop {
-        let mut beside = std::ffi::OsString::from(".");
-        beside.push(name);
-        beside.push(format!(".{}.{number}", std::process::id()));
-        let beside = path.with_file_name(beside);
-        match OpenOptions::new().write(true).create_new(true).open(&beside) {
+        let beside = path.with_file_name(format!(".pensummer.{}.{number}", std::process::id()));
+        match OpenOptions::new().write(true).create_new(true).mode(mode).open(&beside) {
             Ok(file) => return Ok((beside, file)),
             Err(why) if why.kind() == io::ErrorKind::AlreadyExists && number < 1000 => number += 1,
             Err(why) => return Err(why),

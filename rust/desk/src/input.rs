@@ -27,22 +27,24 @@ pub enum Unread {
     Fault(Fault),
 }
 
+/// A file that a person wrote, or a program for one; no such file is longer than `INPUT_MOST` bytes.
+pub fn read_text(name: &str) -> Result<Text, Unread> {
+    let bytes = files::read(name, INPUT_MOST).map_err(Unread::Trouble)?;
+    let file: Rc<str> = name.into();
+    if bytes.len() > INPUT_MOST {
+        let place = Place { file, at: At::Byte(INPUT_MOST) };
+        return Err(Unread::Fault(Fault {
+            place,
+            reason: format!("this file goes on after {INPUT_MOST} bytes, and none that is meant does"),
+        }));
+    }
+    Ok(Text { file, bytes })
+}
+
 impl Input {
     /// Reads one to three files.
     pub fn read(names: &[String]) -> Result<Input, Unread> {
-        let mut texts = Vec::new();
-        for name in names {
-            let bytes = files::read(name, INPUT_MOST).map_err(Unread::Trouble)?;
-            let file: Rc<str> = name.as_str().into();
-            if bytes.len() > INPUT_MOST {
-                let place = Place { file, at: At::Byte(INPUT_MOST) };
-                return Err(Unread::Fault(Fault {
-                    place,
-                    reason: format!("this file goes on after {INPUT_MOST} bytes, and no plant does"),
-                }));
-            }
-            texts.push(Text { file, bytes });
-        }
+        let texts = names.iter().map(|name| read_text(name)).collect::<Result<Vec<Text>, Unread>>()?;
         let fault = |text: &Text, reason: String| {
             let place = Place { file: text.file.clone(), at: At::Byte(0) };
             Err(Unread::Fault(Fault { place, reason }))

@@ -2,7 +2,7 @@
 use crate::answer::{Answer, Certainty};
 use crate::changes::{new_vertices, rows, Row};
 use crate::plant::Weights;
-use crate::width::columns;
+use crate::width::aligned;
 
 const HEAD: [&str; 6] = ["recorded", "label", "edge", "partner", "label", "weight"];
 
@@ -16,7 +16,7 @@ pub fn listing(answer: &Answer) -> String {
         format!("weight {}: vertex pairs {pairs}, weighing {vertices}; edge pairs {mapped}, weighing {edges}\n\n", answer.weight);
     let mut table = vec![HEAD.map(str::to_owned)];
     table.extend(rows.iter().map(|row| cells(answer, row)));
-    text += &aligned(&table);
+    text += &aligned(&table, [false; HEAD.len()]);
     text.push('\n');
     text += &without_partner(answer);
     text + &legend(answer, &rows)
@@ -25,7 +25,7 @@ pub fn listing(answer: &Answer) -> String {
 /// A label: its number, and its name if it has one.
 fn label(labels: &Weights, label: usize) -> String {
     match labels.names.get(label) {
-        Some(name) => format!("{label} {name}"),
+        Some(_) => format!("{label} {}", labels.called(label)),
         None => label.to_string(),
     }
 }
@@ -71,23 +71,6 @@ fn weight_cell(answer: &Answer, row: &Row, v: usize) -> String {
         Some(edge) => format!("{pair} + {}", answer.edge_pair_weight(edge)),
         None => pair.to_string(),
     }
-}
-
-/// Columns as wide as their widest cell, two spaces between, none at a line's end.
-fn aligned(table: &[[String; 6]]) -> String {
-    let width = |column: usize| table.iter().map(|row| columns(&row[column])).max().unwrap_or(0);
-    let widths: Vec<usize> = (0..HEAD.len()).map(width).collect();
-    let mut text = String::new();
-    for row in table {
-        let mut line = String::new();
-        for (cell, &width) in row.iter().zip(&widths) {
-            line += cell;
-            line.extend(std::iter::repeat(' ').take(width - columns(cell) + 2));
-        }
-        text += line.trim_end();
-        text.push('\n');
-    }
-    text
 }
 
 fn without_partner(answer: &Answer) -> String {

@@ -1,7 +1,7 @@
 //! Certificates: writing one, checking one, showing what one holds. The verdict is always the library's; where it refuses, the broken rule is looked for.
 use crate::call::Call;
 use crate::certificate::{self, Broken, Certificate, Dual, Record};
-use crate::files;
+use crate::files::{self, INPUT_MOST};
 use crate::input::{Input, Refused};
 use crate::json::Json;
 use crate::plant::{At, Fault, Place, Plant};
@@ -46,7 +46,8 @@ pub fn show(call: &Call, input: &Input) -> Done {
     let report = Report { command: "show", ..Report::default() };
     checked.print(call, report, || {
         let verdict = if checked.refused.is_some() { "not accepted" } else { "accepted" };
-        let head = format!("{} bytes, {verdict}\n", checked.length);
+        let more = if checked.length > INPUT_MOST { "more than " } else { "" };
+        let head = format!("{more}{} bytes, {verdict}\n", checked.length.min(INPUT_MOST));
         checked.read.as_ref().map_or(head.clone(), |read| head + &certificate::show(checked.plant, read))
     })
 }
@@ -63,7 +64,7 @@ impl<'a> Checked<'a> {
     fn of(call: &Call, input: &'a Input) -> Result<Checked<'a>, Failure> {
         let plant = input.accepted()?;
         let name = call.certificate.as_deref().unwrap_or("-");
-        let bytes = files::read(name, CERTIFICATE_MOST)?;
+        let bytes = files::read(name, INPUT_MOST)?;
         let verdict = pensummer::check_certificate(input.bytes.inputs(), &bytes);
         let (read, broken) = match certificate::read(plant, &bytes) {
             Ok(read) => {

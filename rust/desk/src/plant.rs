@@ -1,5 +1,5 @@
 //! A plant as people give it: a weight table and two trees, with names for people and with the place in the input where each part stands.
-use crate::words::visible;
+use crate::words::shown;
 use std::fmt;
 use std::rc::Rc;
 
@@ -19,7 +19,7 @@ pub enum At {
 
 impl fmt::Display for Place {
     fn fmt(&self, f: &mut fmt::Formatter<'_>) -> fmt::Result {
-        let file: String = self.file.chars().map(visible).collect();
+        let file = shown(&self.file);
         match self.at {
             At::Line { line, column } => write!(f, "{file}:{line}:{column}"),
             At::Byte(offset) => write!(f, "{file}: byte {offset}"),
@@ -59,7 +59,7 @@ impl Weights {
 
     /// A label for people: its name, or else `label` and its number.
     pub fn called(&self, label: usize) -> String {
-        self.names.get(label).cloned().unwrap_or_else(|| format!("label {label}"))
+        self.names.get(label).map_or_else(|| format!("label {label}"), |name| shown(name))
     }
 }
 
@@ -108,7 +108,7 @@ impl Tree {
     /// A vertex for people: its number, and its name if it has one.
     pub fn called(&self, vertex: usize) -> String {
         match &self.vertices[vertex].name {
-            Some(name) => format!("{vertex} {name}"),
+            Some(name) => format!("{vertex} {}", shown(name)),
             None => vertex.to_string(),
         }
     }

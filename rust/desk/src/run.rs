@@ -2,13 +2,12 @@
 use crate::answer::{Answer, Wrong};
 use crate::bytes::Bytes;
 use crate::call::Call;
-use crate::files::{self, Trouble, INPUT_MOST};
-use crate::input::{Input, Refused, Unread};
+use crate::files::{self, Trouble};
+use crate::input::{read_text, Input, Refused, Unread};
 use crate::plant::{Fault, Plant};
 use crate::report::Report;
 use crate::{listing, picture, print, say};
 use std::io;
-use std::rc::Rc;
 
 /// Why a command did not end well.
 pub enum Failure {
@@ -94,9 +93,8 @@ fn answer<'a>(call: &Call, input: &Input, plant: &'a Plant) -> Result<Answer<'a>
         Some(name) => name,
         None => return Answer::found(plant, &input.bytes).map_err(refused),
     };
-    let text = files::read(name, INPUT_MOST)?;
-    let name: Rc<str> = name.as_str().into();
-    Answer::read(plant, &input.bytes, &name, &text).map_err(|wrong| match wrong {
+    let text = read_text(name)?;
+    Answer::read(plant, &input.bytes, &text).map_err(|wrong| match wrong {
         Wrong::Malformed(fault) => Failure::Fault(fault),
         Wrong::NotAccepted(fault) => Failure::NotAccepted(fault),
         Wrong::Refused(refusal) => refused(refusal),

@@ -7,7 +7,7 @@ use crate::plant::{Tree, Weights};
 pub fn vertex(tree: &Tree, labels: &Weights, u: usize) -> String {
     let label = labels.called(tree.label(u));
     match &tree.vertices[u].name {
-        Some(name) => format!("{u} {name} ({label})"),
+        Some(_) => format!("{} ({label})", tree.called(u)),
         None => format!("{u} {label}"),
     }
 }

@@ -79,7 +79,9 @@ impl Labels {
         let rest = &line.text[blank + first.text.len()..];
         let mut names = Vec::new();
         let mut column = first.column + first.text.chars().count();
-        for part in rest.split(',') {
+        // no names at all are none, not an empty one
+        let none = tidy(rest).is_empty();
+        for part in rest.split(',').filter(|_| !none) {
             names.push(tidy(part));
             if names.last().map_or(false, String::is_empty) {
                 return line.fault(column, format!("name {} is empty", names.len()));
@@ -87,7 +89,8 @@ impl Labels {
             column += part.chars().count() + 1;
         }
         if names.len() != self.count {
-            return line.fault(first.column, format!("here are {}; there are to be {}", many(names.len(), "name", "names"), self.count));
+            return line
+                .fault(first.column, format!("this line has {}; there are to be {}", many(names.len(), "name", "names"), self.count));
         }
         self.names = Some(names);
         Ok(())
@@ -155,7 +158,7 @@ impl Labels {
         }
         if self.rows.len() != self.count {
             let (count, kind, rows) = (self.count, self.kind, self.rows.len());
-            let reason = format!("there are {rows} `{kind}` rows before this; there are to be {count}, or a `{kind}-default`");
+            let reason = format!("there are {rows} `{kind}` rows before this; there are to be {count}, or `{kind}-default`");
             return Err(Fault { place: end.clone(), reason });
         }
         let (rows, places) = self.rows.into_iter().map(|row| row.into_iter().unzip()).unzip();

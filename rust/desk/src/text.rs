@@ -3,7 +3,7 @@ use crate::lines::each_line;
 use crate::plant::{Fault, Place, Plant, Table, Tree};
 use crate::table_text::TableText;
 use crate::tree_text::TreeText;
-use crate::words::{quote, Line, Word};
+use crate::words::{quote, Line, Word, NAME_LINES};
 use std::rc::Rc;
 
 /// A text and the name of its file.
@@ -65,6 +65,9 @@ impl File {
     /// What the state is after one more line.
     fn step(self, state: State, line: &Line) -> Result<State, Fault> {
         let words = line.words()?;
+        if NAME_LINES.contains(&words[0].text) && !matches!(state, State::Nothing | State::InTable(_)) {
+            return line.fault(words[0].column, format!("`{}` stands in the table, before the trees", words[0].text));
+        }
         let begins = TREES.contains(&words[0].text);
         Ok(match state {
             State::Nothing => State::InTable(TableText::begin(line, &words)?),

@@ -36,7 +36,7 @@ impl TreeText {
         closed_up(line, words)?;
         for &word in words {
             let parts = line.parts(word, &['=', '-', ':'])?;
-            if parts[0].1 == Some('=') {
+            if parts.iter().any(|(_, after)| *after == Some('=')) {
                 self.read_vertex(line, word, table)?;
             } else {
                 self.read_edge(line, word, table)?;

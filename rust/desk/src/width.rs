@@ -1,4 +1,4 @@
-//! How wide text is on a terminal.
+//! How wide text is on a terminal, and tables of it.
 
 /// The columns that a text takes in a fixed-width font: none for marks that combine with the character before, two for wide characters.
 pub fn columns(text: &str) -> usize {
@@ -12,4 +12,23 @@ fn columns_of(c: char) -> usize {
         0xFE30..=0xFE4F | 0xFF00..=0xFF60 | 0xFFE0..=0xFFE6 | 0x1F300..=0x1FAFF | 0x20000..=0x3FFFD => 2,
         _ => 1,
     }
+}
+
+/// Rows of cells, each column as wide as its widest cell, two spaces between, none at a line's end. Columns of numbers are to the right.
+pub fn aligned<const N: usize>(rows: &[[String; N]], right: [bool; N]) -> String {
+    let width = |column: usize| rows.iter().map(|row| columns(&row[column])).max().unwrap_or(0);
+    let widths: Vec<usize> = (0..N).map(width).collect();
+    let line = |row: &[String; N]| {
+        let cell = |column: usize| {
+            let blanks = " ".repeat(widths[column] - columns(&row[column]));
+            if right[column] {
+                blanks + &row[column]
+            } else {
+                row[column].clone() + &blanks
+            }
+        };
+        let cells: Vec<String> = (0..N).map(cell).collect();
+        cells.join("  ").trim_end().to_owned() + "\n"
+    };
+    rows.iter().map(line).collect()
 }

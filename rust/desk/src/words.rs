@@ -62,8 +62,12 @@ pub fn quote(text: &str) -> String {
     format!("`{short}{rest}`")
 }
 
-/// A character that can be printed in place of one that steers a terminal.
-pub fn visible(c: char) -> char {
+/// A name for people: nothing in it steers a terminal.
+pub fn shown(name: &str) -> String {
+    name.chars().map(visible).collect()
+}
+
+fn visible(c: char) -> char {
     let steers = c.is_control() || matches!(c, '\u{200B}'..='\u{200F}' | '\u{202A}'..='\u{202E}' | '\u{2066}'..='\u{2069}');
     if steers {
         char::REPLACEMENT_CHARACTER

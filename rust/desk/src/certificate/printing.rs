@@ -1,25 +1,20 @@
 //! A certificate as text: its weight, its mapping, and each subproblem with its value and duals, whether they obey the rules or not.
 use super::{allowed, number_called, vertex_pair, Certificate, Dual, Record};
 use crate::plant::{Plant, Tree};
+use crate::width::aligned;
 
-/// Where a column's cells stand.
-#[derive(Clone, Copy)]
-enum Side {
-    Left,
-    Right,
-}
+/// The head of each column, and whether its cells stand to the right.
+const MAPPING: [(&str, bool); 4] = [("recorded", false), ("label", false), ("found", false), ("label", false)];
 
-const MAPPING: [(&str, Side); 4] = [("recorded", Side::Left), ("label", Side::Left), ("found", Side::Left), ("label", Side::Left)];
-
-const SUBPROBLEMS: [(&str, Side); 8] = [
-    ("byte", Side::Right),
-    ("recorded u", Side::Left),
-    ("found v", Side::Left),
-    ("s", Side::Right),
-    ("value", Side::Right),
-    ("weight", Side::Right),
-    ("duals of children", Side::Left),
-    ("duals of neighbours", Side::Left),
+const SUBPROBLEMS: [(&str, bool); 8] = [
+    ("byte", true),
+    ("recorded u", false),
+    ("found v", false),
+    ("s", true),
+    ("value", true),
+    ("weight", true),
+    ("duals of children", false),
+    ("duals of neighbours", false),
 ];
 
 const LEGEND: &str = "\
@@ -76,19 +71,8 @@ fn duals(duals: &[Dual]) -> String {
     duals.iter().map(|dual| format!("{}: {}", dual.vertex, dual.value)).collect::<Vec<_>>().join(", ")
 }
 
-/// Rows under their heads, each column as wide as its widest cell.
-fn columns<const N: usize>(heads: &[(&str, Side); N], mut rows: Vec<[String; N]>) -> String {
+/// Rows under their heads.
+fn columns<const N: usize>(heads: &[(&str, bool); N], mut rows: Vec<[String; N]>) -> String {
     rows.insert(0, heads.map(|(head, _)| head.to_string()));
-    let width = |column: usize| rows.iter().map(|row| row[column].chars().count()).max().unwrap_or(0);
-    let widths: Vec<usize> = (0..N).map(width).collect();
-    rows.iter().map(|row| line(row, heads, &widths)).collect()
-}
-
-fn line<const N: usize>(row: &[String; N], heads: &[(&str, Side); N], widths: &[usize]) -> String {
-    let cell = |(i, cell): (usize, &String)| match heads[i].1 {
-        Side::Left => format!("{cell:<0$}", widths[i]),
-        Side::Right => format!("{cell:>0$}", widths[i]),
-    };
-    let cells: Vec<String> = row.iter().enumerate().map(cell).collect();
-    cells.join("  ").trim_end().to_string() + "\n"
+    aligned(&rows, heads.map(|(_, right)| right))
 }
