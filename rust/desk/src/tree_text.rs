@@ -35,8 +35,7 @@ impl TreeText {
     pub fn read(&mut self, line: &Line, words: &[Word], table: &Table) -> Result<(), Fault> {
         closed_up(line, words)?;
         for &word in words {
-            let parts = line.parts(word, &['=', '-', ':'])?;
-            if parts.iter().any(|(_, after)| *after == Some('=')) {
+            if outside_quotes(word.text, '=').is_some() {
                 self.read_vertex(line, word, table)?;
             } else {
                 self.read_edge(line, word, table)?;
@@ -84,7 +83,7 @@ impl TreeText {
     /// `END-END` or `END-END:LABEL`.
     fn read_edge(&mut self, line: &Line, word: Word, table: &Table) -> Result<(), Fault> {
         let shape = || line.fault(word.column, format!("an edge is two vertices and a label, as 0-1 or 0-1:2, not {}", quote(word.text)));
-        let (ends, label) = match word_label(word.text) {
+        let (ends, label) = match outside_quotes(word.text, ':') {
             Some(at) => (&word.text[..at], Some(&word.text[at + 1..])),
             None => (word.text, None),
         };
@@ -149,11 +148,11 @@ fn closed_up(line: &Line, words: &[Word]) -> Result<(), Fault> {
     }
 }
 
-/// Where the colon before an edge's label stands, if there is one outside quotes.
-fn word_label(word: &str) -> Option<usize> {
+/// Where a character first stands outside quotes.
+fn outside_quotes(word: &str, wanted: char) -> Option<usize> {
     let (mut quoted, mut escaped) = (false, false);
     for (at, c) in word.char_indices() {
-        if c == ':' && !quoted {
+        if c == wanted && !quoted {
             return Some(at);
         }
         if c == '"' && !escaped {
