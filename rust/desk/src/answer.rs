@@ -109,7 +109,8 @@ impl<'a> Answer<'a> {
         self.plant.table.vertex.rows[self.plant.recorded.label(u)][self.plant.found.label(v)]
     }
 
-    /// Of two mapped neighbours u and x of the recorded tree: the labels of their edge and of their partners' edge, if there is one.
+    /// Of two mapped neighbours u and x of the recorded tree: the labels of their edge and of their partners' edge, if
+    /// there is one.
     pub fn edge_pair(&self, u: usize, x: usize) -> Option<(usize, usize)> {
         let recorded = self.recorded.edge(u, x)?;
         Some((recorded, self.found.edge(self.partner[u]?, self.partner[x]?)?))
@@ -161,7 +162,8 @@ impl<'a> Answer<'a> {
         Ok(())
     }
 
-    /// Two mapped vertices are joined exactly if their partners are, and not by a forbidden pair of edges; gives the number of mapped edges.
+    /// Two mapped vertices are joined exactly if their partners are, and not by a forbidden pair of edges; gives the
+    /// number of mapped edges.
     fn test_edges(&self, lines: &Lines) -> Result<usize, Fault> {
         let mut edges = 0;
         for (u, v) in self.pairs() {

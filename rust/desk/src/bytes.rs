@@ -33,7 +33,8 @@ impl Bytes {
         [&self.table[..], &self.recorded[..], &self.found[..]].concat()
     }
 
-    /// Bytes that hold a table and two trees, parted as the match program does: each takes the length that its head names, or all that is left.
+    /// Bytes that hold a table and two trees, parted as the match program does: each takes the length that its head
+    /// names, or all that is left.
     pub fn split(bytes: &[u8]) -> Bytes {
         let (table, trees) = bytes.split_at(table_length(bytes).min(bytes.len()));
         Bytes { table: table.into(), ..Bytes::split_trees(trees) }
@@ -102,7 +103,8 @@ pub struct Part<'a> {
     pub offset: usize,
 }
 
-/// The table and the trees of three parts, or the first byte that is of another shape: there the item 1, 3 or 8 applies.
+/// The table and the trees of three parts, or the first byte that is of another shape: there the item 1, 3 or 8
+/// applies.
 pub fn read(table: Part, recorded: Part, found: Part) -> Result<Plant, Fault> {
     let table = Reader::over(table).table()?;
     let recorded = Reader::over(recorded).tree("recorded")?;

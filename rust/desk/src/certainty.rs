@@ -1,5 +1,6 @@
-//! Whether a mapping is the only heaviest one, vertex by vertex. A pair is asked about by forbidding it and matching again; a vertex without a partner by
-//! making its pairs weigh one more and matching again. Both give the vertices in question labels of their own in a table made for the question.
+//! Whether a mapping is the only heaviest one, vertex by vertex. A pair is asked about by forbidding it and matching
+//! again; a vertex without a partner by making its pairs weigh one more and matching again. Both give the vertices in
+//! question labels of their own in a table made for the question.
 use crate::answer::{heaviest, Answer, Certainty};
 use crate::bytes::{tree_bytes, Bytes};
 use crate::plant::{Plant, Tree};
@@ -50,7 +51,8 @@ impl Asked {
         }
     }
 
-    /// What is known of a vertex with this partner. Where there was no room for its own question, another's answer may tell.
+    /// What is known of a vertex with this partner. Where there was no room for its own question, another's answer may
+    /// tell.
     fn certainty(&self, others: &[&Partners], own: Option<usize>, of: impl Fn(&Partners) -> Option<usize>) -> Certainty {
         match self {
             Asked::Otherwise(partner) => Certainty::Otherwise(of(partner)),

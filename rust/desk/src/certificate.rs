@@ -1,5 +1,5 @@
-//! A certificate of optimality for people: its bytes read against an accepted plant, the first rule that it breaks, and its text.
-//! The verdict on a certificate is the library's; this module says where the fault is, and why it is one.
+//! A certificate of optimality for people: its bytes read against an accepted plant, the first rule that it breaks, and
+//! its text. The verdict on a certificate is the library's; this module says where the fault is, and why it is one.
 mod printing;
 mod rules;
 

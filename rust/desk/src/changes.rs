@@ -85,7 +85,8 @@ pub fn counts(answer: &Answer, rows: &[Row]) -> Counts {
     }
 }
 
-/// Of a recorded vertex with a name: another found vertex than its partner that has the same name. Names weigh nothing, so that this may be.
+/// Of a recorded vertex with a name: another found vertex than its partner that has the same name. Names weigh nothing,
+/// so that this may be.
 pub fn name_elsewhere(answer: &Answer, u: usize) -> Option<usize> {
     let name = answer.plant.recorded.vertices[u].name.as_ref()?;
     let there = answer.plant.found.vertices.iter().position(|vertex| vertex.name.as_ref() == Some(name));

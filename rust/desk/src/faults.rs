@@ -1,4 +1,5 @@
-//! Where in its input a refused plant is at fault, for people. The number of the item is the library's; this finds the place that it is about.
+//! Where in its input a refused plant is at fault, for people. The number of the item is the library's; this finds the
+//! place that it is about.
 use crate::plant::{Fault, Place, Plant, Tree, Weights};
 use crate::words::{many, shown};
 use pensummer::{DEGREE_MOST, EDGE_LABELS_MOST, FORBIDDEN, VERTEX_LABELS_MOST, VERTICES_MOST, WEIGHT_MOST};

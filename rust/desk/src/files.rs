@@ -1,5 +1,5 @@
-//! Reading inputs and writing results as Unix tools do: `-` is standard input or output, what is no regular file is never replaced, and a regular one keeps
-//! its mode and is either whole or as it was.
+//! Reading inputs and writing results as Unix tools do: `-` is standard input or output, what is no regular file is
+//! never replaced, and a regular one keeps its mode and is either whole or as it was.
 use std::fs::{self, File, OpenOptions};
 use std::io::{self, Read, Write};
 use std::os::unix::fs::{FileTypeExt, MetadataExt, OpenOptionsExt};
@@ -88,7 +88,8 @@ fn is_descriptor(path: &Path) -> bool {
     path.starts_with("/proc") || path.starts_with("/dev/fd")
 }
 
-/// The file that a name stands for, symbolic links followed, also where there is none yet. What a descriptor leads to has no name.
+/// The file that a name stands for, symbolic links followed, also where there is none yet. What a descriptor leads to
+/// has no name.
 fn real(path: &Path) -> PathBuf {
     const LINKS_MOST: usize = 40;
     let mut path = path.to_path_buf();

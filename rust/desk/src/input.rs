@@ -1,4 +1,5 @@
-//! A plant from the files that a person names: text, or the bytes of the paper, in one file or in a table's and one or two of trees.
+//! A plant from the files that a person names: text, or the bytes of the paper, in one file or in a table's and one or
+//! two of trees.
 use crate::bytes::{self, Bytes, Part};
 use crate::certificate;
 use crate::faults;

@@ -1,4 +1,5 @@
-//! The lines of a text file: byte order mark and line ends taken off, comments cut, the rest UTF-8 without control characters.
+//! The lines of a text file: byte order mark and line ends taken off, comments cut, the rest UTF-8 without control
+//! characters.
 use crate::plant::{At, Fault, Place};
 use crate::words::{is_blank, Line, NAME_LINES};
 use std::rc::Rc;

@@ -1,4 +1,5 @@
-//! A mapping as a table: the recorded tree from vertex 0 down, children indented below their parent, with partners and what each pair weighs.
+//! A mapping as a table: the recorded tree from vertex 0 down, children indented below their parent, with partners and
+//! what each pair weighs.
 use crate::answer::{Answer, Certainty};
 use crate::changes::{new_vertices, rows, Row};
 use crate::plant::Weights;

@@ -59,8 +59,8 @@ fn trouble(why: files::Trouble) -> u8 {
     TROUBLE
 }
 
-/// Says why a call was refused: for programs on standard output, for people on standard error. What answers yes or no, and what prints as the match
-/// program does, has the number on standard output.
+/// Says why a call was refused: for programs on standard output, for people on standard error. What answers yes or no,
+/// and what prints as the match program does, has the number on standard output.
 fn said(call: &Call, refused: &Refused) -> Result<(), files::Trouble> {
     let of_certificate = refused.refusal >= pensummer::Refusal::CERTIFICATE_FORM;
     if call.json {

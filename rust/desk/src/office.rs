@@ -1,4 +1,5 @@
-//! Certificates: writing one, checking one, showing what one holds. The verdict is always the library's; where it refuses, the broken rule is looked for.
+//! Certificates: writing one, checking one, showing what one holds. The verdict is always the library's; where it
+//! refuses, the broken rule is looked for.
 use crate::call::Call;
 use crate::certificate::{self, Broken, Certificate, Dual, Record};
 use crate::files::{self, INPUT_MOST};

@@ -1,4 +1,5 @@
-//! A plant as people give it: a weight table and two trees, with names for people and with the place in the input where each part stands.
+//! A plant as people give it: a weight table and two trees, with names for people and with the place in the input where
+//! each part stands.
 use crate::words::shown;
 use std::fmt;
 use std::rc::Rc;
@@ -43,7 +44,8 @@ impl fmt::Display for Fault {
 /// The weights of pairs of vertex labels, or of edge labels.
 #[derive(Clone, Debug, PartialEq, Eq)]
 pub struct Weights {
-    /// Row: recorded label; column: found label. `pensummer::FORBIDDEN` is a forbidden pair. Weights may be out of range.
+    /// Row: recorded label; column: found label. `pensummer::FORBIDDEN` is a forbidden pair. Weights may be out of
+    /// range.
     pub rows: Vec<Vec<i32>>,
     /// Where each weight stands.
     pub places: Vec<Vec<Place>>,

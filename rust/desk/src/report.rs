@@ -1,4 +1,5 @@
-//! What a command found, in one shape for programs (docs/FORMAT.md): every key is always there, null where it does not apply.
+//! What a command found, in one shape for programs (docs/FORMAT.md): every key is always there, null where it does not
+//! apply.
 use crate::answer::{Answer, Certainty};
 use crate::changes::{name_elsewhere, rows, Row, State};
 use crate::input::Refused;

@@ -1,4 +1,5 @@
-//! Reading the text form of a plant (docs/FORMAT.md) from one file, or from a table's file and one or two files of trees.
+//! Reading the text form of a plant (docs/FORMAT.md) from one file, or from a table's file and one or two files of
+//! trees.
 use crate::lines::each_line;
 use crate::plant::{Fault, Place, Plant, Table, Tree};
 use crate::table_text::TableText;
@@ -31,7 +32,8 @@ pub fn read(texts: &[Text]) -> Result<Plant, Fault> {
     let mut state = State::Nothing;
     for (at, text) in texts.iter().enumerate() {
         let file = File { at, of: texts.len() };
-        // a line takes the state by value and gives the next one, so it is put back only where no fault ended the reading
+        // a line takes the state by value and gives the next one, so it is put back only where no fault ended the
+        // reading
         let mut now = Some(state);
         let end = each_line(&text.file, &text.bytes, |line| {
             let before = now.take().unwrap_or(State::Nothing);

@@ -19,10 +19,13 @@ pub const COMMANDS: [Command; 8] = [
         certificate: false,
         options: &["--plain", "--answer", "--json"],
         about: "match the two trees and say it in words: kept, changed, gone, new",
-        help: "A heaviest mapping of the two trees, a line for each vertex. A vertex is `kept` if its partner has its label and the edge to the\n\
-               vertex above it has the same label; `changed` if one of these differs; `gone` if it is recorded and has no partner; `new` if it\n\
-               is found and has none. What another mapping as heavy says otherwise is NOT CERTAIN: decide it by eye.\n\
-               Labels and edges decide; names of vertices weigh nothing. Where a name stands at another vertex now, that is said.",
+        help: "A heaviest mapping of the two trees, a line for each vertex. A vertex is\n\
+               `kept` if its partner has its label and the edge to the vertex above it has\n\
+               the same label; `changed` if one of these differs; `gone` if it is recorded\n\
+               and has no partner; `new` if it is found and has none. What another mapping\n\
+               as heavy says otherwise is NOT CERTAIN: decide it by eye. Labels and edges\n\
+               decide; names of vertices weigh nothing. Where a name stands at another\n\
+               vertex now, that is said.",
     },
     Command {
         name: "listing",
@@ -30,8 +33,10 @@ pub const COMMANDS: [Command; 8] = [
         certificate: false,
         options: &["--answer", "--json"],
         about: "the same as a table: the recorded tree, partners and weights",
-        help: "The recorded tree from vertex 0 down, children indented below their parent: number and name, label, label of the edge to the\n\
-               parent, partner, its label, and what the pair and the edge weigh. `!` marks what changed, `?` what is not certain.",
+        help: "The recorded tree from vertex 0 down, children indented below their parent:\n\
+               number and name, label, label of the edge to the parent, partner, its label,\n\
+               and what the pair and the edge weigh. `!` marks what changed, `?` what is\n\
+               not certain.",
     },
     Command {
         name: "picture",
@@ -47,7 +52,8 @@ pub const COMMANDS: [Command; 8] = [
         certificate: false,
         options: &["--output", "--split"],
         about: "turn a text into the bytes that the library and the match program read",
-        help: "The bytes of the table and the two trees, one after the other. The rules of trees are not looked at: the readers do that.",
+        help: "The bytes of the table and the two trees, one after the other. The rules of\n\
+               trees are not looked at: the readers do that.",
     },
     Command {
         name: "text",
@@ -55,9 +61,11 @@ pub const COMMANDS: [Command; 8] = [
         certificate: false,
         options: &["--output"],
         about: "turn bytes into a text; a text is put into its plain form",
-        help: "The text form of a plant. Names and comments are not in the bytes and do not come back from them. Bytes of another shape are\n\
-               refused with the offset of the first one that is wrong; weights out of range, unknown labels and edges that make no tree are\n\
-               written as they are, so that a person can look at them.",
+        help: "The text form of a plant. Names and comments are not in the bytes and do not\n\
+               come back from them. Bytes of another shape are refused with the offset of\n\
+               the first one that is wrong; weights out of range, unknown labels and edges\n\
+               that make no tree are written as they are, so that a person can look at\n\
+               them.",
     },
     Command {
         name: "write",
@@ -73,8 +81,8 @@ pub const COMMANDS: [Command; 8] = [
         certificate: true,
         options: &["--json"],
         about: "check a certificate against a plant",
-        help: "Prints `accepted`, or `refused`, the item's number and its sentence, and on standard error what is wrong, and where. The verdict\n\
-               is the proved check's.",
+        help: "Prints `accepted`, or `refused`, the item's number and its sentence, and on\n\
+               standard error what is wrong, and where. The verdict is the proved check's.",
     },
     Command {
         name: "show",
@@ -82,14 +90,15 @@ pub const COMMANDS: [Command; 8] = [
         certificate: true,
         options: &["--json"],
         about: "show what a certificate holds, and which rule it breaks if it does",
-        help: "The weight, the mapping, and each subproblem's value and duals, also of a certificate that is not accepted, unless its form is\n\
-               wrong (item 20).",
+        help: "The weight, the mapping, and each subproblem's value and duals, also of a\n\
+               certificate that is not accepted, unless its form is wrong (item 20).",
     },
 ];
 
 pub const PLANTS: &str = "\
-PLANT.. is one to three files: a whole plant; or a table and a file with both trees; or a table, the recorded tree and the found tree.
-They are text (docs/FORMAT.md), or bytes, which begin with B1. `-` is standard input.
+PLANT.. is one to three files: a whole plant; or a table and a file with
+both trees; or a table, the recorded tree and the found tree. They are text
+(docs/FORMAT.md), or bytes, which begin with B1. `-` is standard input.
 ";
 
 pub const OPTIONS: [(&str, &str, &str); 5] = [
@@ -100,7 +109,10 @@ pub const OPTIONS: [(&str, &str, &str); 5] = [
     ("--json", "", "print one line of JSON for programs (docs/FORMAT.md)"),
 ];
 
-const STATUS: &str = "Exit status: 0 done or accepted; 1 refused or not accepted; 2 a wrong call, a file, or a text that is no plant.\n";
+const STATUS: &str = "\
+Exit status: 0 done or accepted; 1 refused or not accepted; 2 a wrong call,
+a file, or a text that is no plant.
+";
 
 pub fn general() -> String {
     let mut text = String::from("usage: pensummer COMMAND ..\n\n");

@@ -1,6 +1,7 @@
 //! How wide text is on a terminal, and tables of it.
 
-/// The columns that a text takes in a fixed-width font: none for marks that combine with the character before, two for wide characters.
+/// The columns that a text takes in a fixed-width font: none for marks that combine with the character before, two for
+/// wide characters.
 pub fn columns(text: &str) -> usize {
     text.chars().map(columns_of).sum()
 }
@@ -14,7 +15,8 @@ fn columns_of(c: char) -> usize {
     }
 }
 
-/// Rows of cells, each column as wide as its widest cell, two spaces between, none at a line's end. Columns of numbers are to the right.
+/// Rows of cells, each column as wide as its widest cell, two spaces between, none at a line's end. Columns of numbers
+/// are to the right.
 pub fn aligned<const N: usize>(rows: &[[String; N]], right: [bool; N]) -> String {
     let width = |column: usize| rows.iter().map(|row| columns(&row[column])).max().unwrap_or(0);
     let widths: Vec<usize> = (0..N).map(width).collect();

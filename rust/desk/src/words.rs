@@ -48,7 +48,8 @@ pub fn is_digits(text: &str) -> bool {
     !text.is_empty() && text.bytes().all(|b| b.is_ascii_digit())
 }
 
-/// Whether a name may stand without quotes: letters, digits, `_`, `.`, what is beyond ASCII, and within a label's name `-`.
+/// Whether a name may stand without quotes: letters, digits, `_`, `.`, what is beyond ASCII, and within a label's name
+/// `-`.
 pub fn is_bare(name: &str, hyphen: bool) -> bool {
     let plain = |c: char| c.is_ascii_alphanumeric() || !c.is_ascii() || c == '_' || c == '.' || hyphen && c == '-';
     name.chars().all(plain) && !name.starts_with('-') && !name.ends_with('-')
@@ -99,7 +100,8 @@ impl<'a> Line<'a> {
         Err(Fault { place: self.place(column), reason: reason.into() })
     }
 
-    /// The words of the line, or the quote that is not closed. Of a line of names, in which quotes mean nothing, only the first word.
+    /// The words of the line, or the quote that is not closed. Of a line of names, in which quotes mean nothing, only
+    /// the first word.
     pub fn words(&self) -> Result<Vec<Word<'a>>, Fault> {
         let blanks = self.text.chars().take_while(|&c| is_blank(c)).count();
         let first = self.text[blanks..].split(is_blank).next().unwrap_or_default();
@@ -168,7 +170,8 @@ impl Cursor<'_> {
         self.text.next()
     }
 
-    /// A name in quotes, which are closed; `\` stands before a quote or another `\` that is meant. Else the column of one that does not.
+    /// A name in quotes, which are closed; `\` stands before a quote or another `\` that is meant. Else the column of
+    /// one that does not.
     fn quoted(&mut self) -> Result<String, usize> {
         let mut name = String::new();
         self.next();

@@ -1,4 +1,5 @@
-//! Answers of the built program: match, listing, a given answer, JSON; what is kept, changed, gone, new, and what is certain.
+//! Answers of the built program: match, listing, a given answer, JSON; what is kept, changed, gone, new, and what is
+//! certain.
 mod support;
 
 use support::json::Value;

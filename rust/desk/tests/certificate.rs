@@ -1,4 +1,5 @@
-//! Certificates for people: what is read, the first rule that is broken, and the text; compared with the library over damaged ones.
+//! Certificates for people: what is read, the first rule that is broken, and the text; compared with the library over
+//! damaged ones.
 #[path = "certificate/damage.rs"]
 mod damage;
 #[path = "certificate/plants.rs"]
@@ -100,7 +101,8 @@ fn written(plant: &Plant, library: &Bytes) -> (Vec<u8>, Certificate) {
     (bytes, certificate)
 }
 
-/// Writes the plant's certificate and compares so many damaged ones, some of them damaged twice; not those that damage left as they were.
+/// Writes the plant's certificate and compares so many damaged ones, some of them damaged twice; not those that damage
+/// left as they were.
 fn damaged(plant: &Plant, random: &mut Random, count: usize, tally: &mut Tally) {
     let library = Bytes::of(plant);
     let (bytes, certificate) = written(plant, &library);
@@ -158,7 +160,8 @@ fn every_byte() {
     println!("{} compared: {:?}", tally.total(), tally.0);
 }
 
-/// Every length of small certificates. One that is too short is wrong at its end, one that is too long where it should end.
+/// Every length of small certificates. One that is too short is wrong at its end, one that is too long where it should
+/// end.
 #[test]
 fn every_length() {
     let mut random = Random(4);
@@ -309,7 +312,8 @@ fn records() {
     number([1, 2, 3], 0, 5, &format!("{allowed} the value 5; the pair weighs 1 and the duals add up to 3, together 4"));
 }
 
-/// A child pair whose duals do not cover its weight, in a sum that is right; the left-out pairs beside it need no cover.
+/// A child pair whose duals do not cover its weight, in a sum that is right; the left-out pairs beside it need no
+/// cover.
 #[test]
 fn cover() {
     let plant = named_plant();

@@ -1,4 +1,5 @@
-//! Certificates with the built program: written, checked and shown; from text and bytes; damaged ones with the item and the byte.
+//! Certificates with the built program: written, checked and shown; from text and bytes; damaged ones with the item and
+//! the byte.
 mod support;
 
 use support::json::Value;

@@ -1,4 +1,5 @@
-//! The files that the built program writes: whole or as they were, never replaced where they are no regular file, with nothing left beside.
+//! The files that the built program writes: whole or as they were, never replaced where they are no regular file, with
+//! nothing left beside.
 mod support;
 
 use std::fs::{self, OpenOptions, Permissions};
@@ -24,7 +25,8 @@ fn three() -> Folder {
 
 /// Runs the program as somebody who may not write everything; none, with a note, if that cannot be done here.
 ///
-/// Devices are outputs only in such runs: a program that is broken may replace them, and as root that would break the machine.
+/// Devices are outputs only in such runs: a program that is broken may replace them, and as root that would break the
+/// machine.
 fn run_as_nobody(folder: &Folder, arguments: &[&str]) -> Option<Ran> {
     if !is_root(folder) {
         return Some(folder.run(arguments));
@@ -36,7 +38,8 @@ fn run_as_nobody(folder: &Folder, arguments: &[&str]) -> Option<Ran> {
             return None;
         }
     };
-    // where the program was built may be closed to others; a copy by this process might be held open by the start of another one
+    // where the program was built may be closed to others; a copy by this process might be held open by the start of
+    // another one
     let (home, program) = (Folder::new(), "program");
     let copied = Command::new("cp").arg(PROGRAM).arg(home.path(program)).status().expect("cp");
     assert!(copied.success(), "cp");

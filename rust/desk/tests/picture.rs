@@ -1,5 +1,5 @@
-//! Tests the pictures: that their XML is well formed, that they show the mapping, that nothing overlaps, and that large ones can be read on
-//! a page.
+//! Tests the pictures: that their XML is well formed, that they show the mapping, that nothing overlaps, and that large
+//! ones can be read on a page.
 use desk::answer::{Answer, Certainty};
 use desk::graph::Graph;
 use desk::picture::{picture, widths};
@@ -184,7 +184,8 @@ fn part(shape: &Shape, n: usize, random: &mut Random) -> Vec<usize> {
     chosen
 }
 
-/// A found tree with a copy of a part of the recorded tree, and the partners; labels stay the same but for `odds` in a hundred.
+/// A found tree with a copy of a part of the recorded tree, and the partners; labels stay the same but for `odds` in a
+/// hundred.
 fn found_with(
     recorded: &Shape,
     chosen: &[usize],
@@ -409,7 +410,8 @@ fn nothing_overlaps(seen: &Seen) {
     }
 }
 
-/// Each pair has a line between two circles of its row and colour, vertices have rows of their own, and what is folded has no partner.
+/// Each pair has a line between two circles of its row and colour, vertices have rows of their own, and what is folded
+/// has no partner.
 fn shows_the_mapping(seen: &Seen, answer: &Answer) {
     let circle = |side: usize, u: usize| seen.circles.iter().find(|c| c.side == side && c.vertex == u);
     let rows: BTreeSet<(usize, String)> = seen.circles.iter().map(|c| (c.side, c.y.to_string())).collect();
@@ -555,7 +557,8 @@ fn widths_of_texts() {
 
 #[test]
 fn folds_large_branches_only() {
-    // a hub with a path of 20 and a path of 30 that have no partner, one of 3 that has none either, and 6 vertices that have one
+    // a hub with a path of 20 and a path of 30 that have no partner, one of 3 that has none either, and 6 vertices that
+    // have one
     let mut parents = vec![0, 1, 2, 3, 4];
     parents.push(0);
     parents.extend(6..25);

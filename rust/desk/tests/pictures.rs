@@ -1,4 +1,5 @@
-//! Pictures that the built program draws: well-formed, with every vertex, edge and pair of the plant, and none of a refused one.
+//! Pictures that the built program draws: well-formed, with every vertex, edge and pair of the plant, and none of a
+//! refused one.
 mod support;
 
 use support::plants::{big, examples, of_repository, tree, LOOP, NINE};
@@ -64,7 +65,8 @@ fn number(line: &str, name: &str) -> f64 {
     value(line, name).parse().expect(name)
 }
 
-/// Each line across is level, runs from left to right, and has the row and colour of one circle on either side; gives how many there are.
+/// Each line across is level, runs from left to right, and has the row and colour of one circle on either side; gives
+/// how many there are.
 fn lines_across(svg: &str) -> usize {
     let circles: Vec<&str> = svg.lines().filter(|line| line.starts_with("<circle ")).collect();
     let lines: Vec<&str> = svg.lines().filter(|line| line.starts_with("<line class=\"pair\"")).collect();

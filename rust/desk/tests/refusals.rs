@@ -1,4 +1,5 @@
-//! Plants that the library refuses: the built program says the number, the sentence, the place and the reason, and does nothing else.
+//! Plants that the library refuses: the built program says the number, the sentence, the place and the reason, and does
+//! nothing else.
 mod support;
 
 use support::json::Value;

@@ -1,4 +1,5 @@
-//! The text form of a plant, read by the built program: what its lines give as bytes, what is wrong with others, and where.
+//! The text form of a plant, read by the built program: what its lines give as bytes, what is wrong with others, and
+//! where.
 mod support;
 
 use support::plants::{big, examples, hex, of_repository, row, three_bytes, FOUND, ONE, RECORDED, TABLE, THREE, THREE_PLAIN};

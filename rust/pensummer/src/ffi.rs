@@ -1,5 +1,5 @@
-//! The archive's functions as `include/pensummer.h` declares them. The safe functions of this crate are thin over these; what each does, and what it asks
-//! of its pointers, stands in the header.
+//! The archive's functions as `include/pensummer.h` declares them. The safe functions of this crate are thin over
+//! these; what each does, and what it asks of its pointers, stands in the header.
 #![allow(missing_docs)]
 
 /// The answer of a match or a finish: the refusal's number, 0 if it was carried out, and then the mapping's weight.
@@ -10,7 +10,8 @@ pub struct MatchResult {
     pub weight: i32,
 }
 
-/// A job's record. It belongs to the caller and may hold any numbers: 0 in `idle` says that a job is running, any other number that none is.
+/// A job's record. It belongs to the caller and may hold any numbers: 0 in `idle` says that a job is running, any other
+/// number that none is.
 #[repr(C)]
 #[derive(Clone, Copy, Debug, PartialEq, Eq)]
 pub struct Job {

@@ -1,9 +1,9 @@
-//! Pensummer for Rust: a heaviest common subtree isomorphism of two labelled trees under a weight table, in one call or as a job in slices; writing a
-//! certificate of optimality, and checking one.
+//! Pensummer for Rust: a heaviest common subtree isomorphism of two labelled trees under a weight table, in one call or
+//! as a job in slices; writing a certificate of optimality, and checking one.
 //!
-//! Everything is done by the proved archive `libpensummer.a`; this crate declares its functions ([`ffi`]) and wraps them safely. It lends the caller's
-//! buffers and allocates nothing. The bytes of a table, a tree and a certificate, and what each refusal means, are in `docs/FORMAT.md`; what each call
-//! promises is in `include/pensummer.h`.
+//! Everything is done by the proved archive `libpensummer.a`; this crate declares its functions ([`ffi`]) and wraps
+//! them safely. It lends the caller's buffers and allocates nothing. The bytes of a table, a tree and a certificate,
+//! and what each refusal means, are in `docs/FORMAT.md`; what each call promises is in `include/pensummer.h`.
 //!
 //! ```ignore
 //! let (mut work, mut mapping) = ([0; pensummer::WORK_MOST], [0; pensummer::VERTICES_MOST]);
@@ -68,24 +68,27 @@ fn result<T>(refusal: u32, value: T) -> Result<T, Refusal> {
     }
 }
 
-/// The match in one call: a heaviest mapping in the first n bytes of `mapping`, and its weight. Tests the items 1 to 13 and 18. The first n(3m - 2) work
-/// numbers are left with the values of all subproblems; a refused call changes nothing.
-pub fn match_trees(i: Inputs, work: &mut [i32], mapping: &mut [u8]) -> Result<i32, Refusal> {
-    // SAFETY: as for every call below: each pointer is that of a slice or a reference, with the slice's length, and what is written is borrowed mutably
-    let r = unsafe {
-        ffi::pensummer_match(
-            i.table.as_ptr(),
-            i.table.len(),
-            i.recorded.as_ptr(),
-            i.recorded.len(),
-            i.found.as_ptr(),
-            i.found.len(),
-            work.as_mut_ptr(),
-            work.len(),
-            mapping.as_mut_ptr(),
-            mapping.len(),
-        )
+/// A call of the archive: first what stands before the inputs, then each input as a pointer and a length, then the
+/// rest.
+macro_rules! lend {
+    ($function:ident, [$($before:expr),*], $i:ident, [$($rest:expr),*]) => {
+        // SAFETY: each pointer is that of a slice or a reference, with the slice's length, and what is written is
+        // borrowed mutably
+        unsafe {
+            ffi::$function(
+                $($before,)*
+                $i.table.as_ptr(), $i.table.len(), $i.recorded.as_ptr(), $i.recorded.len(), $i.found.as_ptr(), $i.found.len(),
+                $($rest),*
+            )
+        }
     };
+}
+
+/// The match in one call: a heaviest mapping in the first n bytes of `mapping`, and its weight. Tests the items 1 to 13
+/// and 18. The first n(3m - 2) work numbers are left with the values of all subproblems; a refused call changes
+/// nothing.
+pub fn match_trees(i: Inputs, work: &mut [i32], mapping: &mut [u8]) -> Result<i32, Refusal> {
+    let r = lend!(pensummer_match, [], i, [work.as_mut_ptr(), work.len(), mapping.as_mut_ptr(), mapping.len()]);
     result(r.refusal, r.weight)
 }
 
@@ -97,98 +100,35 @@ impl Job {
 
     /// Begins a job, also over an earlier one. Tests the items 1 to 13. Changes no work number.
     pub fn start(&mut self, i: Inputs, work: &[i32]) -> Result<(), Refusal> {
-        let refusal = unsafe {
-            ffi::pensummer_start(
-                self,
-                i.table.as_ptr(),
-                i.table.len(),
-                i.recorded.as_ptr(),
-                i.recorded.len(),
-                i.found.as_ptr(),
-                i.found.len(),
-                work.as_ptr(),
-                work.len(),
-            )
-        };
+        let refusal = lend!(pensummer_start, [self], i, [work.as_ptr(), work.len()]);
         result(refusal, ())
     }
 
-    /// Solves the smaller of `budget` and what is left, and gives that count: so many work numbers are filled, from the position on. Tests the items 1 to
-    /// 16.
+    /// Solves the smaller of `budget` and what is left, and gives that count: so many work numbers are filled, from the
+    /// position on. Tests the items 1 to 16.
     pub fn advance(&mut self, i: Inputs, budget: u32, work: &mut [i32]) -> Result<u32, Refusal> {
-        let r = unsafe {
-            ffi::pensummer_advance(
-                self,
-                i.table.as_ptr(),
-                i.table.len(),
-                i.recorded.as_ptr(),
-                i.recorded.len(),
-                i.found.as_ptr(),
-                i.found.len(),
-                budget,
-                work.as_mut_ptr(),
-                work.len(),
-            )
-        };
+        let r = lend!(pensummer_advance, [self], i, [budget, work.as_mut_ptr(), work.len()]);
         result(r.refusal, r.count)
     }
 
-    /// Reads the mapping of a job whose subproblems are all solved into the first n bytes of `mapping`, and gives its exact weight. Over memory that only
-    /// this job's calls have changed it is a heaviest one. Tests the items 1 to 18.
+    /// Reads the mapping of a job whose subproblems are all solved into the first n bytes of `mapping`, and gives its
+    /// exact weight. Over memory that only this job's calls have changed it is a heaviest one. Tests the items 1 to 18.
     pub fn finish(&self, i: Inputs, work: &[i32], mapping: &mut [u8]) -> Result<i32, Refusal> {
-        let r = unsafe {
-            ffi::pensummer_finish(
-                self,
-                i.table.as_ptr(),
-                i.table.len(),
-                i.recorded.as_ptr(),
-                i.recorded.len(),
-                i.found.as_ptr(),
-                i.found.len(),
-                work.as_ptr(),
-                work.len(),
-                mapping.as_mut_ptr(),
-                mapping.len(),
-            )
-        };
+        let r = lend!(pensummer_finish, [self], i, [work.as_ptr(), work.len(), mapping.as_mut_ptr(), mapping.len()]);
         result(r.refusal, r.weight)
     }
 }
 
-/// Writes a certificate into the front of `certificate`, and gives its length. Tests the items 1 to 13 and 19. The first n(3m - 2) work numbers are left
-/// with the values of all subproblems.
+/// Writes a certificate into the front of `certificate`, and gives its length. Tests the items 1 to 13 and 19. The
+/// first n(3m - 2) work numbers are left with the values of all subproblems.
 pub fn write_certificate(i: Inputs, work: &mut [i32], certificate: &mut [u8]) -> Result<usize, Refusal> {
-    let r = unsafe {
-        ffi::pensummer_write(
-            i.table.as_ptr(),
-            i.table.len(),
-            i.recorded.as_ptr(),
-            i.recorded.len(),
-            i.found.as_ptr(),
-            i.found.len(),
-            work.as_mut_ptr(),
-            work.len(),
-            certificate.as_mut_ptr(),
-            certificate.len(),
-        )
-    };
+    let r = lend!(pensummer_write, [], i, [work.as_mut_ptr(), work.len(), certificate.as_mut_ptr(), certificate.len()]);
     result(r.refusal, r.length as usize)
 }
 
-/// Checks a certificate, whoever wrote it. Tests the items 1 to 12 and 20 to 24. Where it is accepted, the mapping in it is a heaviest one and the
-/// weight in it is that mapping's.
+/// Checks a certificate, whoever wrote it. Tests the items 1 to 12 and 20 to 24. Where it is accepted, the mapping in
+/// it is a heaviest one and the weight in it is that mapping's.
 pub fn check_certificate(i: Inputs, certificate: &[u8]) -> Result<(), Refusal> {
-    let refusal = unsafe {
-        ffi::pensummer_check(
-            i.table.as_ptr(),
-            i.table.len(),
-            i.recorded.as_ptr(),
-            i.recorded.len(),
-            i.found.as_ptr(),
-            i.found.len(),
-            certificate.as_ptr(),
-            certificate.len(),
-        )
-    };
+    let refusal = lend!(pensummer_check, [], i, [certificate.as_ptr(), certificate.len()]);
     result(refusal, ())
 }

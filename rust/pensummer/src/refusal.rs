@@ -47,7 +47,8 @@ items! {
 }
 
 impl Refusal {
-    /// The refusal that a call of the archive gives as this number; none for 0, which says that the call was carried out.
+    /// The refusal that a call of the archive gives as this number; none for 0, which says that the call was carried
+    /// out.
     pub const fn of(number: u32) -> Option<Refusal> {
         if number == 0 {
             None

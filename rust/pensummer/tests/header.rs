@@ -1,5 +1,5 @@
-//! Holds what is written twice against the crate: the constants of include/pensummer.h, the sentences of office/items.c, and the items and the bytes of
-//! docs/FORMAT.md.
+//! Holds what is written twice against the crate: the constants of include/pensummer.h, the sentences of
+//! office/items.c, and the items and the bytes of docs/FORMAT.md.
 use pensummer::Refusal;
 use std::collections::BTreeMap;
 use std::fs;
@@ -136,8 +136,8 @@ fn header() {
     assert_eq!(values(), items.chain(limits).collect());
 }
 
-/// The most bytes of a certificate by its formula, with the squares of degrees of a tree of the most vertices: as many of the greatest degree as the sum
-/// of all degrees allows, then one of what is left.
+/// The most bytes of a certificate by its formula, with the squares of degrees of a tree of the most vertices: as many
+/// of the greatest degree as the sum of all degrees allows, then one of what is left.
 #[test]
 fn longest_certificate() {
     let (n, degree) = (pensummer::VERTICES_MOST, pensummer::DEGREE_MOST);
@@ -147,7 +147,8 @@ fn longest_certificate() {
     assert_eq!(pensummer::CERTIFICATE_MOST, 8 + 3 * n + 6 * n * (3 * n - 2) + 4 * (n - 1) * (3 * n - 2) + 4 * n * squares);
 }
 
-/// The C programs of the office say the crate's sentences: a line `[PENSUMMER_NAME] = "sentence",` for each item, in order.
+/// The C programs of the office say the crate's sentences: a line `[PENSUMMER_NAME] = "sentence",` for each item, in
+/// order.
 #[test]
 fn office_sentences() {
     let source = text("office/items.c");
@@ -168,7 +169,8 @@ fn format_items() {
     }
 }
 
-/// The bytes of the tables of docs/FORMAT.md whose columns are offset, bytes and meaning; each offset is where its bytes stand.
+/// The bytes of the tables of docs/FORMAT.md whose columns are offset, bytes and meaning; each offset is where its
+/// bytes stand.
 fn listed() -> Vec<Vec<u8>> {
     let mut parts: Vec<Vec<u8>> = Vec::new();
     let mut inside = false;

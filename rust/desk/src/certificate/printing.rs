@@ -1,4 +1,5 @@
-//! A certificate as text: its weight, its mapping, and each subproblem with its value and duals, whether they obey the rules or not.
+//! A certificate as text: its weight, its mapping, and each subproblem with its value and duals, whether they obey the
+//! rules or not.
 use super::{allowed, number_called, vertex_pair, Certificate, Dual, Record};
 use crate::plant::{Plant, Tree};
 use crate::width::aligned;

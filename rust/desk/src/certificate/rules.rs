@@ -1,4 +1,5 @@
-//! The rules of a certificate, items 21 to 24: the first that is broken, and why. Each function gives nothing where its rule holds.
+//! The rules of a certificate, items 21 to 24: the first that is broken, and why. Each function gives nothing where its
+//! rule holds.
 use super::{allowed, number_called, vertex_pair, Broken, Certificate, Dual, Record, HEAD, PARTNER, WEIGHT_AT};
 use crate::graph::{Graph, Rooted};
 use crate::plant::Plant;
@@ -51,7 +52,8 @@ impl<'a> Rules<'a> {
         allowed(self.plant.table.edge.rows[self.recorded.edge(a, b)?][self.found.edge(c, d)?])
     }
 
-    /// Item 21: the first vertex whose partner breaks a rule, alone or together with an earlier one; then whether the mapping is connected.
+    /// Item 21: the first vertex whose partner breaks a rule, alone or together with an earlier one; then whether the
+    /// mapping is connected.
     fn mapping(&self) -> Option<Broken> {
         let fault = |u: usize| self.own_pair(u).or_else(|| (0..u).find_map(|w| self.two_pairs([w, u])));
         let (u, reason) = (0..self.recorded.size()).find_map(|u| Some((u, fault(u)?))).or_else(|| self.parts())?;
@@ -110,7 +112,8 @@ impl<'a> Rules<'a> {
         Some(Broken { item: 22, offset: WEIGHT_AT, reason: format!("the mapping weighs {sum}, the head says {said}") })
     }
 
-    /// What a vertex adds to the weight of a mapping that obeys its rules: its pair, and that of the edge to its parent.
+    /// What a vertex adds to the weight of a mapping that obeys its rules: its pair, and that of the edge to its
+    /// parent.
     fn pair_weight(&self, u: usize) -> i64 {
         let pair = self.partner(u).and_then(|v| vertex_pair(self.plant, u, v));
         let edge = self.rooted.parent[u].and_then(|p| self.edge_pair([u, p], [self.partner(u)?, self.partner(p)?]));

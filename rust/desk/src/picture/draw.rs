@@ -120,7 +120,8 @@ fn lines(sheet: &Sheet, side: usize) -> String {
     group("stroke=\"#9a9a9a\" stroke-width=\"1.5\"", grey) + &group("stroke=\"#222\" stroke-width=\"2\"", same + &changed)
 }
 
-/// From the parent along the rows, then to the vertex in its own row, with a round corner; to a straight vertex only along the rows.
+/// From the parent along the rows, then to the vertex in its own row, with a round corner; to a straight vertex only
+/// along the rows.
 fn line(sheet: &Sheet, side: usize, u: usize, parent: usize) -> String {
     let (x, y, from) = (sheet.x(side, parent), sheet.y(side, u), sheet.y(side, parent));
     let bend = if y > from { 1.0 } else { -1.0 };

@@ -1,4 +1,5 @@
-//! Where the vertices of a picture stand: which branches are folded, and the rows. Each vertex has a row of its own, its partner the same.
+//! Where the vertices of a picture stand: which branches are folded, and the rows. Each vertex has a row of its own,
+//! its partner the same.
 use super::order::{Hanging, Stand};
 use crate::answer::Answer;
 use crate::graph::{Graph, Rooted};
@@ -66,8 +67,8 @@ impl<'a> Hung<'a> {
         order[at..].iter().take(self.size[u] - 1).copied().collect()
     }
 
-    /// Whether this is a whole branch without any partner, and large enough to be folded. Where no vertex at all has a partner nothing is
-    /// folded: the picture would be empty.
+    /// Whether this is a whole branch without any partner, and large enough to be folded. Where no vertex at all has a
+    /// partner nothing is folded: the picture would be empty.
     fn can_fold(&self, u: usize) -> bool {
         let whole = matches!(self.rooted.parent[u], Some(parent) if !self.grey[parent]);
         whole && self.grey[u] && self.size[u] > SMALL
@@ -112,8 +113,8 @@ fn folds(hung: &[Hung; 2], open: [Vec<bool>; 2], narrow: bool) -> [Vec<bool>; 2]
     folded
 }
 
-/// Where the vertices stand if these branches are folded, and the number of rows. The found tree follows the recorded one; in a narrow
-/// layout they then follow each other in turn as long as that saves rows.
+/// Where the vertices stand if these branches are folded, and the number of rows. The found tree follows the recorded
+/// one; in a narrow layout they then follow each other in turn as long as that saves rows.
 fn arranged(hung: &[Hung; 2], folded: &[Vec<bool>; 2], narrow: bool) -> ([Stand; 2], usize) {
     let mut hanging = Hanging::new(hung, folded, narrow);
     let recorded = hanging.stand(RECORDED);
@@ -137,7 +138,8 @@ fn arranged(hung: &[Hung; 2], folded: &[Vec<bool>; 2], narrow: bool) -> ([Stand;
     (best, rows)
 }
 
-/// Gives partners the same row, and what stands between two pairs the rows between them, beside each other. Returns the number of rows.
+/// Gives partners the same row, and what stands between two pairs the rows between them, beside each other. Returns the
+/// number of rows.
 fn give_rows(hung: &[Hung; 2], stand: &mut [Stand; 2]) -> usize {
     let mut at = [0, 0];
     let mut rows = 0;

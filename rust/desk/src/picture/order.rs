@@ -1,8 +1,8 @@
 //! The order of rows in a tree, and how far its vertices are indented.
 //!
-//! A vertex has a part of its children above it and the others below. In a narrow layout its heaviest child may be straight: it stands
-//! below the other children, not indented, with all its own children below it. So a path is one column, the line to a straight child meets
-//! nothing, and a tree of 64 vertices is indented a few times only.
+//! A vertex has a part of its children above it and the others below. In a narrow layout its heaviest child may be
+//! straight: it stands below the other children, not indented, with all its own children below it. So a path is one
+//! column, the line to a straight child meets nothing, and a tree of 64 vertices is indented a few times only.
 use super::layout::{Hung, FOUND, RECORDED};
 use std::cmp::Reverse;
 
@@ -26,11 +26,13 @@ pub struct Hanging<'a, 'b> {
     narrow: bool,
     /// How many vertices of each branch are shown.
     shown: [Vec<usize>; 2],
-    /// The place of each vertex and its partner among the pairs, in the order of the tree that is followed; none before there is one.
+    /// The place of each vertex and its partner among the pairs, in the order of the tree that is followed; none before
+    /// there is one.
     rank: [Vec<Option<usize>>; 2],
     /// The first and the last place in each branch.
     span: [Vec<Option<[usize; 2]>>; 2],
-    /// How many vertices without partners the tree that is followed has before each pair and after the last, less those put beside them.
+    /// How many vertices without partners the tree that is followed has before each pair and after the last, less those
+    /// put beside them.
     room: Vec<i64>,
 }
 
@@ -159,7 +161,8 @@ impl<'a, 'b> Hanging<'a, 'b> {
         branches
     }
 
-    /// Puts children without partners where the tree that is followed has most of its own with nothing beside them; else right below.
+    /// Puts children without partners where the tree that is followed has most of its own with nothing beside them;
+    /// else right below.
     fn spread(&mut self, side: usize, u: usize, branches: Branches, mut lone: Vec<usize>, straight: bool) -> Branches {
         let own = branches.above.len();
         let gaps = self.gaps(side, u, &branches);
@@ -175,7 +178,8 @@ impl<'a, 'b> Hanging<'a, 'b> {
         branches.woven(u, slots)
     }
 
-    /// The gaps between pairs that children of `u` can stand in: before each of the branches and `u` itself, and after the last.
+    /// The gaps between pairs that children of `u` can stand in: before each of the branches and `u` itself, and after
+    /// the last.
     fn gaps(&self, side: usize, u: usize, branches: &Branches) -> Vec<usize> {
         let span = |c: &usize| if *c == u { self.rank[side][u].map(|rank| [rank, rank]) } else { self.span[side][*c] };
         let spans: Vec<[usize; 2]> = branches.above.iter().chain([&u]).chain(&branches.below).filter_map(span).collect();

@@ -1,5 +1,5 @@
-//! How wide a text is. Which font a viewer has is not known, so this is an upper estimate: Helvetica's widths, and so much more that DejaVu
-//! Sans, the widest of the fonts that the picture names, has room too.
+//! How wide a text is. Which font a viewer has is not known, so this is an upper estimate: Helvetica's widths, and so
+//! much more that DejaVu Sans, the widest of the fonts that the picture names, has room too.
 
 /// The widths of the characters from the space to `~` in Helvetica, in thousandths of the font size.
 const ASCII: [u16; 95] = [

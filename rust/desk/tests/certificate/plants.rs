@@ -1,4 +1,5 @@
-//! Plants for the tests of certificates, built directly: small ones of the paper, one with names, random ones; the library over them.
+//! Plants for the tests of certificates, built directly: small ones of the paper, one with names, random ones; the
+//! library over them.
 use desk::plant::{At, Edge, Place, Plant, Table, Tree, Vertex, Weights};
 use pensummer::{Inputs, CERTIFICATE_MOST, FORBIDDEN, VERTICES_MOST, WORK_MOST};
 
@@ -71,7 +72,8 @@ pub fn small_plant_8() -> Plant {
     Plant { table: table(weights(&[&[5, X, X], &[X, 5, 4], &[X, 4, 0]], &[]), weights(&[&[0]], &[])), recorded: star.clone(), found: star }
 }
 
-/// Paths with names: three vertices recorded, four found; the pair of circulation and filtering is forbidden, and that of pipe and cable.
+/// Paths with names: three vertices recorded, four found; the pair of circulation and filtering is forbidden, and that
+/// of pipe and cable.
 pub fn named_plant() -> Plant {
     let vertex = weights(&[&[5, 1, X], &[1, 4, 1], &[1, 2, 3]], &["circulation", "heating", "filtering"]);
     let recorded = tree(&[0, 1, 2], &[(0, 1, 0), (1, 2, 0)], &["pump", "heater", "filter"]);

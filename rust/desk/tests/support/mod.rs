@@ -1,4 +1,5 @@
-//! What the tests of the built program share: a fresh folder for each test, runs of the program in it, plants, and a strict reader of JSON.
+//! What the tests of the built program share: a fresh folder for each test, runs of the program in it, plants, and a
+//! strict reader of JSON.
 #![allow(dead_code)] // every test file uses a part
 
 pub mod json;
