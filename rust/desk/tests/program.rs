@@ -77,9 +77,8 @@ fn general_help_is_on_standard_output_and_names_every_command() {
     assert_eq!((err.as_str(), status), ("", 0));
     assert!(help.starts_with("usage: pensummer COMMAND ..\n\n  match    match the two trees"), "{help}");
     assert!(COMMANDS.iter().all(|name| help.contains(&format!("\n  {name:<8} "))), "{help}");
-    assert!(
-        help.ends_with("Exit status: 0 done or accepted; 1 refused or not accepted; 2 a wrong call, a file, or a text that is no plant.\n")
-    );
+    assert!(help
+        .ends_with("Exit status: 0 done or accepted; 1 refused or not accepted; 2 a wrong call,\na file, or a text that is no plant.\n"));
     for arguments in [["-h"], ["help"]] {
         assert_eq!(folder.run(&arguments), said(help.clone(), "", 0), "{arguments:?}");
     }
