@@ -53,8 +53,9 @@ fn outputs(call: &Call) -> Vec<String> {
 
 /// No file is written over that is read.
 fn apart(call: &Call) -> Done {
+    let named = |input: &str| if input == "-" { "/dev/stdin".to_owned() } else { input.to_owned() };
     for output in outputs(call) {
-        if call.inputs().any(|input| files::is_same(input, &output)) {
+        if call.inputs().any(|input| files::is_same(&named(input), &output)) {
             let why = io::Error::new(io::ErrorKind::InvalidInput, "this file is read and would be written over");
             return Err(Trouble { name: output, why }.into());
         }

@@ -126,6 +126,9 @@ fn a_file_that_is_read_is_not_written_over() {
             assert_eq!(folder.run(&[command, "p", "-o", name]), said("", message.as_str(), 2), "{command}");
         }
     }
+    let plant = fs::File::open(folder.path("p")).expect("the plant");
+    let output = folder.command(&["picture", "-", "-o", "p"]).stdin(plant).output().expect("the program");
+    assert_eq!(output.stderr, b"pensummer: p: this file is read and would be written over\n");
     let message = "pensummer: a.table: this file is read and would be written over\n";
     assert_eq!(folder.run(&["plant", "a.table", "--split", "a"]), said("", message, 2));
     assert_eq!((folder.get("p"), folder.get("a.table")), (THREE.as_bytes().to_vec(), THREE.as_bytes().to_vec()));

@@ -32,8 +32,9 @@ use std::collections::BTreeSet;
 use std::panic::{catch_unwind, AssertUnwindSafe};
 use std::time::{Duration, Instant};
 
-const EXAMPLES: [&str; 3] = [
+const EXAMPLES: [&str; 4] = [
     include_str!("../../../examples/cellar.txt"),
+    include_str!("../../../examples/named.txt"),
     include_str!("../../../examples/pool.txt"),
     include_str!("../../../examples/small_plant_3.txt"),
 ];
