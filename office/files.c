@@ -88,7 +88,7 @@ static char *beside(const char *program, const char *path, const char *last) {
 
 /* Whether `path` names an open file of a process, which no other file can take the place of. */
 static int is_descriptor(const char *path) {
-    return strncmp(path, "/proc/", 6) == 0 || strncmp(path, "/dev/fd/", 8) == 0;
+    return (strncmp(path, "/proc/", 6) == 0 && strstr(path, "/fd/") != NULL) || strncmp(path, "/dev/fd/", 8) == 0;
 }
 
 /* Where the symbolic links that begin at `name` end: a path that is no link, there or not, or a descriptor's. */
@@ -159,7 +159,8 @@ void keep_apart(const char *program, char **inputs, int count, const char *outpu
     struct stat read, written;
     if (stat(output, &written) != 0 || !S_ISREG(written.st_mode)) return;
     for (int i = 0; i < count; i++) {
-        if (stat(inputs[i], &read) == 0 && read.st_dev == written.st_dev && read.st_ino == written.st_ino) {
+        int there = is_dash(inputs[i]) ? fstat(STDIN_FILENO, &read) : stat(inputs[i], &read);
+        if (there == 0 && read.st_dev == written.st_dev && read.st_ino == written.st_ino) {
             fprintf(stderr, "%s: %s: this file is read and would be written over\n", program, output);
             exit(2);
         }

@@ -34,7 +34,9 @@ pub fn read(arguments: &[String]) -> Asked {
     let command = |name: &str| COMMANDS.iter().find(|command| command.name == name);
     match (first, rest.first()) {
         ("--help" | "-h" | "help", None) => Asked::Help(general()),
-        ("help", Some(name)) => command(name).map_or_else(|| no_command(name), |command| Asked::Help(command.full_help())),
+        ("--help" | "-h" | "help", Some(name)) => {
+            command(name).map_or_else(|| no_command(name), |command| Asked::Help(command.full_help()))
+        }
         ("--version" | "-V", _) => Asked::Help(concat!("pensummer ", env!("CARGO_PKG_VERSION"), "\n").into()),
         _ => command(first).map_or_else(|| no_command(first), |command| of_command(command, rest)),
     }

@@ -34,7 +34,17 @@ pub struct Row {
     /// The labels of the edge to the parent and of the partners' edge.
     pub edge: Option<(usize, usize)>,
     pub state: State,
+    /// Whether the partner is certain.
     pub certain: Certainty,
+    /// Whether the edge is: of a vertex whose own partner is certain, whether that of the vertex above is.
+    pub edge_certain: Certainty,
+}
+
+impl Row {
+    /// Whether nothing in this row is in doubt.
+    pub fn is_certain(&self) -> bool {
+        self.certain == Certainty::Certain && self.edge_certain == Certainty::Certain
+    }
 }
 
 /// The recorded vertices, parents before children and children ascending.
@@ -49,7 +59,10 @@ pub fn rows(answer: &Answer) -> Vec<Row> {
             Some(v) if other_edge || answer.label_changed(vertex, v) => State::Changed,
             Some(_) => State::Kept,
         };
-        Row { vertex, depth: rooted.depth[vertex], parent, partner, edge, state, certain: answer.certain[vertex] }
+        let above = parent.filter(|_| edge.is_some()).map_or(Certainty::Certain, |parent| answer.certain[parent]);
+        let certain = answer.certain[vertex];
+        let edge_certain = if certain == Certainty::Certain { above } else { Certainty::Certain };
+        Row { vertex, depth: rooted.depth[vertex], parent, partner, edge, state, certain, edge_certain }
     };
     rooted.preorder.iter().map(row).collect()
 }
@@ -60,7 +73,7 @@ pub fn new_vertices<'a>(answer: &'a Answer) -> impl Iterator<Item = usize> + 'a 
 }
 
 /// How many of each, how many are not certain, and of how many that is not known.
-#[derive(Clone, Copy, Default)]
+#[derive(Clone, Copy)]
 pub struct Counts {
     pub kept: usize,
     pub changed: usize,
@@ -73,7 +86,8 @@ pub struct Counts {
 pub fn counts(answer: &Answer, rows: &[Row]) -> Counts {
     let of = |state| rows.iter().filter(|row| row.state == state).count();
     let new = new_vertices(answer).map(|v| answer.found_certain[v]);
-    let certain: Vec<Certainty> = rows.iter().map(|row| row.certain).chain(new).collect();
+    let own = |row: &Row| if row.certain == Certainty::Certain { row.edge_certain } else { row.certain };
+    let certain: Vec<Certainty> = rows.iter().map(own).chain(new).collect();
     let unknown = certain.iter().filter(|&&certain| certain == Certainty::Unknown).count();
     Counts {
         kept: of(State::Kept),

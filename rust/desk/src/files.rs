@@ -85,7 +85,8 @@ pub fn is_output(name: &str) -> bool {
 
 /// Whether a path names an open file of a process, which no other file can take the place of.
 fn is_descriptor(path: &Path) -> bool {
-    path.starts_with("/proc") || path.starts_with("/dev/fd")
+    let folder = path.parent().unwrap_or(path);
+    folder == Path::new("/dev/fd") || folder.starts_with("/proc") && folder.ends_with("fd")
 }
 
 /// The file that a name stands for, symbolic links followed, also where there is none yet. What a descriptor leads to
@@ -124,12 +125,25 @@ fn replace(path: &Path, bytes: &[u8], old: Option<fs::Metadata>) -> io::Result<(
 
 extern "C" {
     fn fchown(file: i32, owner: u32, group: u32) -> i32;
+    fn signal(number: i32, handler: usize) -> usize;
+}
+
+/// Has a limit on file sizes be an error of a write, not the program's end.
+pub fn outlive_limits() {
+    const SIGXFSZ: i32 = 25;
+    const SIG_IGN: usize = 1;
+    // SAFETY: C's function takes two numbers; nothing is run when the signal comes
+    unsafe { signal(SIGXFSZ, SIG_IGN) };
 }
 
 /// Gives a file the owner of an old one, where that is allowed, and its mode.
 fn dress(file: &File, old: &fs::Metadata) -> io::Result<()> {
+    const AS_IT_IS: u32 = u32::MAX;
     // SAFETY: the descriptor is open; C's function takes three numbers
-    unsafe { fchown(file.as_raw_fd(), old.uid(), old.gid()) };
+    let give = |owner| unsafe { fchown(file.as_raw_fd(), owner, old.gid()) };
+    if give(old.uid()) != 0 {
+        give(AS_IT_IS);
+    }
     file.set_permissions(old.permissions())
 }
 

@@ -38,10 +38,6 @@ impl Graph {
         self.near[vertex].iter().map(|&(to, _)| to)
     }
 
-    pub fn degree(&self, vertex: usize) -> usize {
-        self.near[vertex].len()
-    }
-
     /// The label of the edge between two vertices; none if they are not joined.
     pub fn edge(&self, a: usize, b: usize) -> Option<usize> {
         self.near[a].iter().find(|&&(to, _)| to == b).map(|&(_, label)| label)

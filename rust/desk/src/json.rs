@@ -23,12 +23,6 @@ impl From<&str> for Json {
     }
 }
 
-impl From<String> for Json {
-    fn from(text: String) -> Json {
-        Json::Text(text)
-    }
-}
-
 impl From<usize> for Json {
     fn from(number: usize) -> Json {
         Json::Number(number as i64)

@@ -1,7 +1,7 @@
 //! A mapping as a table: the recorded tree from vertex 0 down, children indented below their parent, with partners and
 //! what each pair weighs.
 use crate::answer::{Answer, Certainty};
-use crate::changes::{new_vertices, rows, Row};
+use crate::changes::{name_elsewhere, new_vertices, rows, Row};
 use crate::plant::Weights;
 use crate::width::aligned;
 
@@ -48,7 +48,8 @@ fn cells(answer: &Answer, row: &Row) -> [String; 6] {
         None => [name, own, edge, format!("-{}", unsure(row.certain)), String::new(), String::new()],
         Some(v) => {
             let changed = if answer.label_changed(u, v) { " !" } else { "" };
-            let partner = format!("{}{}", plant.found.called(v), unsure(row.certain));
+            let elsewhere = if name_elsewhere(answer, u).is_some() { " *" } else { "" };
+            let partner = format!("{}{}{elsewhere}", plant.found.called(v), unsure(row.certain));
             let other = format!("{}{changed}", label(&plant.table.vertex, plant.found.label(v)));
             [name, own, edge, partner, other, weight_cell(answer, row, v)]
         }
@@ -59,9 +60,10 @@ fn cells(answer: &Answer, row: &Row) -> [String; 6] {
 fn edge_cell(answer: &Answer, row: &Row, parent: usize) -> String {
     let labels = &answer.plant.table.edge;
     let own = label(labels, answer.recorded.edge(row.vertex, parent).unwrap_or_default());
+    let unsure = unsure(row.edge_certain);
     match row.edge {
-        Some((was, is)) if was != is => format!("{own} -> {} !", label(labels, is)),
-        _ => own,
+        Some((was, is)) if was != is => format!("{own} -> {} !{unsure}", label(labels, is)),
+        _ => own + unsure,
     }
 }
 
@@ -95,14 +97,18 @@ fn without_partner(answer: &Answer) -> String {
 fn legend(answer: &Answer, rows: &[Row]) -> String {
     let edges = rows.iter().any(|row| row.edge.map_or(false, |(was, is)| was != is));
     let changed = edges || answer.pairs().any(|(u, v)| answer.label_changed(u, v));
-    let unsure = answer.certain.iter().chain(&answer.found_certain).any(|&certain| certain != Certainty::Certain);
-    let mut text = String::new();
-    if changed {
-        text += "\n! the label is another one now\n";
+    let new = new_vertices(answer).map(|v| answer.found_certain[v] == Certainty::Certain);
+    let unsure = !rows.iter().map(Row::is_certain).chain(new).all(|certain| certain);
+    let elsewhere = answer.pairs().any(|(u, _)| name_elsewhere(answer, u).is_some());
+    let marks = [
+        (changed, "! the label is another one now\n"),
+        (unsure, "? not certain: another heaviest mapping says otherwise, or it is not known; `pensummer match` says which\n"),
+        (elsewhere, "* the recorded name stands at another found vertex\n"),
+    ];
+    let said: String = marks.iter().filter(|(there, _)| *there).map(|(_, words)| *words).collect();
+    if said.is_empty() {
+        said
+    } else {
+        format!("\n{said}")
     }
-    if unsure {
-        text += if changed { "" } else { "\n" };
-        text += "? not certain: another heaviest mapping says otherwise, or it is not known; `pensummer match` says which\n";
-    }
-    text
 }

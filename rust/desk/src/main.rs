@@ -11,6 +11,7 @@ const REFUSED: u8 = 1;
 const TROUBLE: u8 = 2;
 
 fn main() -> ExitCode {
+    files::outlive_limits();
     let arguments: Result<Vec<String>, _> = std::env::args_os().skip(1).map(|word| word.into_string()).collect();
     let status = match arguments {
         Ok(arguments) => asked(read(&arguments)),
@@ -59,6 +60,15 @@ fn trouble(why: files::Trouble) -> u8 {
     TROUBLE
 }
 
+/// Prints a report; beside a certificate that is printed, on standard error.
+fn print_beside(call: &Call, report: &str) -> Result<(), files::Trouble> {
+    if call.command.name == "write" && call.output.as_deref().map_or(false, files::is_output) {
+        files::say(report);
+        return Ok(());
+    }
+    files::print(report.as_bytes())
+}
+
 /// Says why a call was refused: for programs on standard output, for people on standard error. What answers yes or no,
 /// and what prints as the match program does, has the number on standard output.
 fn said(call: &Call, refused: &Refused) -> Result<(), files::Trouble> {
@@ -66,7 +76,10 @@ fn said(call: &Call, refused: &Refused) -> Result<(), files::Trouble> {
     if call.json {
         // a certificate's refusal was printed with the certificate
         let report = Report { command: call.command.name, refusal: Some(refused), ..Report::default() };
-        return if of_certificate { Ok(()) } else { files::print(report.json().as_bytes()) };
+        return match of_certificate {
+            true => Ok(()),
+            false => print_beside(call, &report.json()),
+        };
     }
     match call.command.name {
         "match" if call.plain => files::print(format!("refused {}\n", refused.refusal.number()).as_bytes())?,

@@ -78,6 +78,7 @@ fn recorded_vertex(answer: &Answer, row: &Row) -> Json {
             ("label", was.into()),
             ("partner_label", is.into()),
             ("weight", answer.edge_pair_weight((was, is)).into()),
+            ("certain", edge_certain(row)),
         ]))
     });
     let mut members = vertex(&answer.plant.recorded, &answer.plant.table.vertex, row.vertex);
@@ -112,6 +113,15 @@ fn vertex(tree: &Tree, labels: &Weights, u: usize) -> Vec<(&'static str, Json)> 
         ("label", label.into()),
         ("label_name", labels.names.get(label).map(String::as_str).into()),
     ]
+}
+
+/// Whether both ends of an edge are certain.
+fn edge_certain(row: &Row) -> Json {
+    match (row.certain, row.edge_certain) {
+        (Certainty::Certain, Certainty::Certain) => true.into(),
+        (Certainty::Unknown, _) | (_, Certainty::Unknown) => Json::Null,
+        _ => false.into(),
+    }
 }
 
 fn certainty(certain: Certainty) -> [(&'static str, Json); 2] {

@@ -49,6 +49,10 @@ fn recorded_line(answer: &Answer, row: &Row) -> String {
         line += &changes(answer, row, v);
     }
     line += &doubt(row.certain, |v| found(answer, v));
+    if let (Some(parent), true) = (row.parent, row.edge_certain != Certainty::Certain) {
+        let known = if row.edge_certain == Certainty::Unknown { "KNOWN to be certain" } else { "CERTAIN" };
+        line += &format!("; its edge is NOT {known}, since recorded {} is not", answer.plant.recorded.called(parent));
+    }
     match name_elsewhere(answer, row.vertex) {
         Some(v) => line + &format!("; THE SAME NAME stands at {}", found(answer, v)),
         None => line,

@@ -322,17 +322,18 @@ fn all_labels() -> String {
 #[test]
 fn where_all_labels_are_in_use_it_is_not_known_whether_a_pair_is_certain() {
     let text = out(&all_labels(), &["match"]);
-    assert!(text.starts_with("weight 197: 33 kept, 0 changed, 0 gone, 0 new; 0 not certain, 2 not known\n"), "{text}");
+    assert!(text.starts_with("weight 197: 33 kept, 0 changed, 0 gone, 0 new; 0 not certain, 3 not known\n"), "{text}");
+    assert!(text.contains("found 1 label 1; its edge is NOT KNOWN to be certain, since recorded 0 is not\n"), "{text}");
     let unsure = "; NOT KNOWN to be certain: to ask takes a label or a weight beyond the limits\n";
     for at in [0, 32] {
         assert!(text.contains(&format!("kept     recorded {at} label 0 is found {at} label 0{unsure}")), "{text}");
     }
-    assert_eq!(text.matches("NOT").count(), 2);
+    assert_eq!(text.matches("NOT").count(), 3);
     let json = report(&out(&all_labels(), &["match", "--json"]));
     let expected: Vec<_> = (0..33).map(|at| if at % 32 == 0 { unknown() } else { sure() }).collect();
     assert_eq!((certain(&json, "recorded"), certain(&json, "found")), (expected.clone(), expected));
     let listing = out(&all_labels(), &["listing"]);
-    assert_eq!(listing.matches(" ?").count(), 2, "{listing}");
+    assert_eq!(listing.matches(" ?").count(), 3, "{listing}");
 }
 
 /// Of a path and one edge of it one end is left over, with a weight that cannot be raised.
@@ -377,6 +378,27 @@ new      found 1 label 0, joined to 0 label 0 by label 0; NOT CERTAIN: as heavy 
     assert_eq!(out(plant, &["match"]), expected);
 }
 
+/// A probe whose pump is one of two: with the other one its edge is as it was.
+const ONE_OF_TWO: &str = "labels 2 2\nvertex-names pump, probe\nedge-names signal, power\nvertex-default forbidden\nvertex-equal 5\n\
+                          edge-default 1\nrecorded A=pump B=probe\nA-B:signal\nfound P1=pump B=probe P2=pump\nP1-B:power P2-B:signal\n";
+
+#[test]
+fn the_edge_of_a_certain_vertex_to_one_that_is_not_is_not_certain() {
+    let expected = "\
+weight 11: 1 kept, 1 changed, 0 gone, 1 new; 3 not certain
+
+kept     recorded 0 A (pump) is found 0 P1 (pump); NOT CERTAIN: as heavy with found 2 P2 (pump)
+changed  recorded 1 B (probe) is found 1 B (probe); its edge to 0 A was signal and is power; \
+its edge is NOT CERTAIN, since recorded 0 A is not
+new      found 2 P2 (pump), joined to 1 B (probe) by signal; NOT CERTAIN: as heavy with recorded 0 A (pump)
+";
+    assert_eq!(out(ONE_OF_TWO, &["match"]), expected);
+    assert!(out(ONE_OF_TWO, &["listing"]).contains("  0 signal -> 1 power ! ?  1 B  "));
+    let json = report(&out(ONE_OF_TWO, &["match", "--json"]));
+    let probe = &json.at("recorded").list()[1];
+    assert_eq!((probe.at("certain"), probe.at("edge").at("certain")), (&Value::Bool(true), &Value::Bool(false)));
+}
+
 /// Two probes that were exchanged: the names follow the devices, the mapping follows labels and edges.
 const EXCHANGED: &str = "labels 3 1\nvertex-names pump, heater, probe\nvertex-default forbidden\nvertex-equal 5\nedge 1\n\
                          recorded P=0 H=1 pH=2 Redox=2\nP-H P-pH H-Redox\nfound P=0 H=1 pH=2 Redox=2\nP-H P-Redox H-pH\n";
@@ -392,6 +414,11 @@ kept     recorded 2 pH (probe) is found 3 Redox (probe); THE SAME NAME stands at
 kept     recorded 3 Redox (probe) is found 2 pH (probe); THE SAME NAME stands at found 3 Redox (probe)
 ";
     assert_eq!(out(EXCHANGED, &["match"]), expected);
+    let listing = out(EXCHANGED, &["listing"]);
+    assert!(
+        listing.contains("  3 Redox *  2 probe") && listing.ends_with("\n\n* the recorded name stands at another found vertex\n"),
+        "{listing}"
+    );
     let json = report(&out(EXCHANGED, &["match", "--json"]));
     let same: Vec<Value> = json.at("recorded").list().iter().map(|vertex| vertex.at("same_name").clone()).collect();
     assert_eq!(same, [Value::Null, Value::Null, Value::Number(2), Value::Number(3)]);
@@ -621,7 +648,7 @@ fn json_of_small_plant_3_whole() {
              \"certain\":true,\"otherwise\":null,\"weight\":{weight},\"edge\":{edge},\"same_name\":null}}"
         )
     };
-    let edge = "{\"to\":0,\"label\":0,\"partner_label\":0,\"weight\":1}";
+    let edge = "{\"to\":0,\"label\":0,\"partner_label\":0,\"weight\":1,\"certain\":true}";
     let recorded = [vertex(0, 0, 1, 5, "null"), vertex(1, 1, 0, 3, edge)].join(",");
     let found = [vertex(0, 1, 1, 3, "null"), vertex(1, 0, 0, 5, "null")].join(",");
     let expected = format!(

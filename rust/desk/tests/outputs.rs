@@ -7,7 +7,7 @@ use std::os::unix::fs::{symlink, FileTypeExt, PermissionsExt};
 use std::path::{Path, PathBuf};
 use std::process::Command;
 use std::thread;
-use support::plants::{hex, three_bytes, FOUND, LOOP, RECORDED, TABLE, THREE};
+use support::plants::{hex, of_repository, three_bytes, FOUND, LOOP, RECORDED, TABLE, THREE};
 use support::{fifo, is_root, ran, said, Folder, Ran, PROGRAM};
 
 /// The plant of `p` as bytes into this output.
@@ -132,6 +132,18 @@ fn a_file_that_is_read_is_not_written_over() {
     let message = "pensummer: a.table: this file is read and would be written over\n";
     assert_eq!(folder.run(&["plant", "a.table", "--split", "a"]), said("", message, 2));
     assert_eq!((folder.get("p"), folder.get("a.table")), (THREE.as_bytes().to_vec(), THREE.as_bytes().to_vec()));
+}
+
+#[test]
+fn a_limit_on_file_sizes_is_trouble_and_leaves_nothing_beside() {
+    let folder = Folder::new();
+    folder.put("p", of_repository("examples/pool.txt"));
+    let script = "ulimit -f 1; exec \"$0\" write p -o c";
+    let output =
+        std::process::Command::new("sh").args(["-c", script, env!("CARGO_BIN_EXE_pensummer")]).current_dir(folder.path(".")).output();
+    let output = output.expect("a shell");
+    assert_eq!((output.stderr, output.status.code()), (b"pensummer: c: File too large\n".to_vec(), Some(2)));
+    assert_eq!(folder.names(), ["p"]);
 }
 
 #[test]

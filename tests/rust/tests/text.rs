@@ -32,11 +32,12 @@ use std::collections::BTreeSet;
 use std::panic::{catch_unwind, AssertUnwindSafe};
 use std::time::{Duration, Instant};
 
+/// The last one has what the old grammar had not.
 const EXAMPLES: [&str; 4] = [
     include_str!("../../../examples/cellar.txt"),
-    include_str!("../../../examples/named.txt"),
     include_str!("../../../examples/pool.txt"),
     include_str!("../../../examples/small_plant_3.txt"),
+    include_str!("../../../examples/named.txt"),
 ];
 
 /// No input is longer.
@@ -258,7 +259,7 @@ fn what_the_old_grammar_takes_is_taken() {
 fn old_text(random: &mut Random) -> (Vec<u8>, bool) {
     let size = if random.once_in(4) { Size::Any } else { Size::Small(4) };
     let mut text = match random.below(12) {
-        0 => random.pick(&EXAMPLES).as_bytes().to_vec(),
+        0 => random.pick(&EXAMPLES[..3]).as_bytes().to_vec(),
         _ => Made::any(random, size, true).texts(random).remove(0),
     };
     let damages = *random.pick(&[0, 1, 1, 1, 2, 3]);

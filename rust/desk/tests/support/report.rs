@@ -6,7 +6,7 @@ const REFUSAL: [&str; 4] = ["item", "sentence", "place", "reason"];
 const PLACE: [&str; 4] = ["file", "line", "column", "byte"];
 const VERTEX: [&str; 11] =
     ["vertex", "name", "label", "label_name", "state", "partner", "certain", "otherwise", "weight", "edge", "same_name"];
-const EDGE: [&str; 4] = ["to", "label", "partner_label", "weight"];
+const EDGE: [&str; 5] = ["to", "label", "partner_label", "weight", "certain"];
 const CERTIFICATE: [&str; 4] = ["length", "accepted", "mapping", "subproblems"];
 const SUBPROBLEM: [&str; 7] = ["recorded", "found", "without", "byte", "value", "recorded_duals", "found_duals"];
 
