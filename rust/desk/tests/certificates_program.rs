@@ -265,6 +265,14 @@ fn json_of_write_is_one_line_of_the_documented_shape() {
 }
 
 #[test]
+fn json_of_a_refused_plant_stands_beside_a_certificate_on_standard_output() {
+    let folder = Folder::with(&[("p", LOOP)]);
+    let (out, err, status) = folder.run(&["write", "--json", "p", "-o", "-"]);
+    assert_eq!((out.as_str(), status), ("", 1));
+    assert_eq!(*report(&err).at("refusal").at("item"), Value::Number(6));
+}
+
+#[test]
 fn json_of_write_stands_beside_a_certificate_on_standard_output() {
     let folder = written(THREE);
     let output = folder.command(&["write", "--json", "p", "-o", "-"]).output().expect("the program");
