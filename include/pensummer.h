@@ -1,6 +1,7 @@
-/* The C interface of Pensummer: matching two trees under a weight table, in one call or as a job in slices, and writing
- * and checking a certificate of optimality. Link with libpensummer.a, which `tools/archive` makes. docs/FORMAT.md has
- * the bytes of a table, a tree and a certificate, with an example of each, and what each refusal means.
+/* The C interface of Pensummer: matching two trees under a weight table, in one call or as a job in slices, writing and
+ * checking a certificate of optimality, and how much memory to lend for it. Link with libpensummer.a, which
+ * `tools/archive` makes. docs/FORMAT.md has the bytes of a table, a tree and a certificate, with an example of each, and
+ * what each refusal means.
  *
  * Every buffer is a pointer and a count of elements. No pointer is null, not even for a count of 0, and each is aligned
  * for its type; the same holds for a job's record. All of it is initialised, and no one else writes to it during a
@@ -137,7 +138,27 @@ struct pensummer_write_result {
     uint32_t length;
 };
 
+/* How much to lend: how many subproblems there are, how many work numbers are wanted, and a certificate's length in
+ * bytes; 0 each where the call was refused. */
+struct pensummer_sizes_result {
+    uint32_t refusal;
+    uint32_t subproblems;
+    uint32_t work;
+    uint32_t certificate;
+};
+
 /* ---- calls */
+
+/* How much to lend for these trees, so that memory can be set aside first. Tests 1 to 12. Solves nothing, and is lent
+ * nothing but what it reads.
+ *
+ * With `work` work numbers or more no call is refused by 13, and with fewer each is that tests it. The counts of a
+ * job's advances add up to `subproblems` when nothing is left to solve, and to less before. With a buffer of
+ * `certificate` bytes or more no writing is refused by 19, and with fewer each is that is not refused before; that is
+ * the length that a writing gives back, and a certificate of any other is refused by 20. A mapping takes n bytes. */
+struct pensummer_sizes_result pensummer_sizes(const uint8_t *table, size_t table_len,
+                                              const uint8_t *recorded, size_t recorded_len,
+                                              const uint8_t *found, size_t found_len);
 
 /* The match in one call. Tests 1 to 13 and 18. Leaves all values in order in the first n(3m - 2) work numbers, and in
  * the first n bytes of `mapping` a heaviest mapping: for each recorded vertex its partner, or 255. The weight is that

@@ -10,10 +10,11 @@ int main(int argc, char **argv) {
         fputs("usage: check TABLE RECORDED FOUND CERTIFICATE\n", stderr);
         return 2;
     }
-    struct bytes files[4];
-    read_files("check", argv + 1, 4, files);
-    uint32_t refusal = pensummer_check(files[0].at, files[0].len, files[1].at, files[1].len, files[2].at, files[2].len,
-                                       files[3].at, files[3].len);
+    one_input("check", argv + 1, 4);
+    struct plant plant = read_plant("check", argv + 1);
+    struct pensummer_sizes_result sizes = pensummer_sizes(LEND(plant));
+    struct bytes certificate = read_file("check", argv[4], sizes.certificate);
+    uint32_t refusal = pensummer_check(LEND(plant), certificate.at, certificate.len);
     if (refusal == 0) {
         puts("accepted");
         said("check", stdout);

@@ -11,7 +11,6 @@
 #include <sys/stat.h>
 #include <unistd.h>
 
-#define MOST (PENSUMMER_CERTIFICATE_MOST + 1)
 #define LINKS_MOST 40
 #define LINK_LONGEST 4096
 #define BESIDE ".pensummer.XXXXXX"
@@ -25,24 +24,30 @@ static int is_dash(const char *name) {
     return strcmp(name, "-") == 0;
 }
 
-static struct bytes read_file(const char *program, const char *name) {
-    struct bytes b = {malloc(MOST), 0};
+struct bytes read_file(const char *program, const char *name, size_t longest) {
+    struct bytes b = {malloc(longest + 1), 0};
     FILE *file = b.at == NULL ? NULL : is_dash(name) ? stdin : fopen(name, "rb");
     if (file == NULL) give_up(program, name);
-    b.len = fread(b.at, 1, MOST, file);
+    b.len = fread(b.at, 1, longest + 1, file);
     if (ferror(file)) give_up(program, name);
     fclose(file);
     return b;
 }
 
-void read_files(const char *program, char **names, int count, struct bytes *files) {
+void one_input(const char *program, char **names, int count) {
     int dashes = 0;
     for (int i = 0; i < count; i++) dashes += is_dash(names[i]);
-    if (dashes > 1) {
-        fprintf(stderr, "%s: -: standard input is only one of the files\n", program);
-        exit(2);
-    }
-    for (int i = 0; i < count; i++) files[i] = read_file(program, names[i]);
+    if (dashes <= 1) return;
+    fprintf(stderr, "%s: -: standard input is only one of the files\n", program);
+    exit(2);
+}
+
+struct plant read_plant(const char *program, char **names) {
+    struct plant p;
+    p.table = read_file(program, names[0], PENSUMMER_TABLE_MOST);
+    p.recorded = read_file(program, names[1], PENSUMMER_TREE_MOST);
+    p.found = read_file(program, names[2], PENSUMMER_TREE_MOST);
+    return p;
 }
 
 /* Whether `name` is standard output, so that what is said there would get among the bytes. On a character device, as

@@ -11,10 +11,23 @@ struct bytes {
     size_t len;
 };
 
-/* Reads `count` files, of which one may be `-`: their bytes, but no more than one over the length of the longest
- * certificate, since a longer file is refused by its length all the same. Ends the program with a message and status 2
- * if one cannot be read. `at` is never null. */
-void read_files(const char *program, char **names, int count, struct bytes *files);
+/* The table, the recorded tree and the found tree. */
+struct plant {
+    struct bytes table, recorded, found;
+};
+
+/* A plant as the arguments that every call begins with. */
+#define LEND(p) (p).table.at, (p).table.len, (p).recorded.at, (p).recorded.len, (p).found.at, (p).found.len
+
+/* Ends the program with a message and status 2 if more than one of the `count` files that it reads is `-`. */
+void one_input(const char *program, char **names, int count);
+
+/* Reads a file: its bytes, but no more than one over `longest`, since a longer file is refused by its length all the
+ * same. Ends the program with a message and status 2 if it cannot be read. `at` is never null. */
+struct bytes read_file(const char *program, const char *name, size_t longest);
+
+/* Reads the three files of a plant. */
+struct plant read_plant(const char *program, char **names);
 
 /* Where a program speaks that writes to `name`: standard error if that is standard output, `-` or by another name. */
 FILE *speech(const char *name);

@@ -1,10 +1,18 @@
 //! Writing and checking a certificate as one would write them in Rust for speed, over the plain match.
-use crate::plain::{children, deliver, duals, fill, gains, plan, Plan, FORBIDDEN, NONE};
+use crate::plain::{children, deliver, duals, fill, gains, plan, read_table, read_tree, Plan, Tree, FORBIDDEN, NONE};
 
 /// The certificate's length.
-pub fn length(p: &Plan) -> usize {
-    let squares: usize = p.f.degree[..p.f.n].iter().map(|d| d * d).sum();
-    8 + 3 * p.r.n + 6 * p.r.n * p.width + 4 * (p.r.n - 1) * p.width + 4 * p.r.n * squares
+pub fn length(r: &Tree, f: &Tree) -> usize {
+    let squares: usize = f.degree[..f.n].iter().map(|d| d * d).sum();
+    let width = 3 * f.n - 2;
+    8 + 3 * r.n + 6 * r.n * width + 4 * (r.n - 1) * width + 4 * r.n * squares
+}
+
+/// How much to lend: the work numbers wanted, one for each subproblem, and a certificate's length.
+pub fn sizes(table: &[u8], recorded: &[u8], found: &[u8]) -> Result<(usize, usize), u32> {
+    let t = read_table(table)?;
+    let (r, f) = (read_tree(recorded, &t, 3)?, read_tree(found, &t, 8)?);
+    Ok((r.n * (3 * f.n - 2), length(&r, &f)))
 }
 
 struct Out<'a> {
@@ -27,7 +35,7 @@ pub fn write(table: &[u8], recorded: &[u8], found: &[u8], work: &mut [i32], cert
     if work.len() < all {
         return Err(13);
     }
-    let length = length(&p);
+    let length = length(&p.r, &p.f);
     if certificate.len() < length {
         return Err(19);
     }
@@ -111,7 +119,7 @@ pub fn check(table: &[u8], recorded: &[u8], found: &[u8], z: &[u8]) -> u32 {
         Ok(p) => p,
         Err(item) => return item,
     };
-    if z.len() != length(&p) || z[..4] != [0xC1, 1, p.r.n as u8, p.f.n as u8] {
+    if z.len() != length(&p.r, &p.f) || z[..4] != [0xC1, 1, p.r.n as u8, p.f.n as u8] {
         return 20;
     }
     let mut mapping = [NONE; 64];

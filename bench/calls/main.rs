@@ -1,5 +1,5 @@
 //! Compares the proved calls with plain ones in Rust (plain.rs, certificate.rs) on the same plants, in one run: the match in one call, a job in
-//! slices of 256 with its start and finish, writing a certificate, and checking it. A difference in their answers stops the program. It prints
+//! slices of 256 with its start and finish, writing a certificate, checking it, a start alone, and how much to lend. A difference in their answers stops the program. It prints
 //! the mean over a line's plants of the best of several calls, in microseconds, the ratio, how the time grows from the size before, and the
 //! most stack that a call used. Run it by run.sh.
 mod certificate;
@@ -16,7 +16,7 @@ use std::time::Instant;
 const PLANTS: usize = 6;
 const ROUNDS: usize = 25;
 const SLICE: usize = 256;
-const CALLS: [&str; 4] = ["match", "slices", "write", "check"];
+const CALLS: [&str; 6] = ["match", "slices", "write", "check", "start", "sizes"];
 
 /// What the calls are lent: work numbers, a mapping, a certificate and its length.
 struct Room {
@@ -39,6 +39,12 @@ macro_rules! job {
     }};
 }
 
+/// The work numbers wanted and a certificate's length, as one number.
+fn both(sizes: Result<(usize, usize), u32>) -> i64 {
+    let (work, certificate) = sizes.unwrap();
+    (work as i64) << 32 | certificate as i64
+}
+
 /// One call of either side; its answer as a number. The check is of the certificate that lies in the room.
 fn by_proved(call: usize, p: &Plant, b: &mut Room) -> i64 {
     match call {
@@ -48,7 +54,9 @@ fn by_proved(call: usize, p: &Plant, b: &mut Room) -> i64 {
             b.length = proved::write(&p.table, &p.recorded, &p.found, &mut b.work, &mut b.certificate).unwrap();
             b.length as i64
         }
-        _ => proved::check(&p.table, &p.recorded, &p.found, &b.certificate[..b.length]) as i64,
+        3 => proved::check(&p.table, &p.recorded, &p.found, &b.certificate[..b.length]) as i64,
+        4 => proved::start(&p.table, &p.recorded, &p.found, &b.work).map_or_else(i64::from, |_| 0),
+        _ => both(proved::sizes(&p.table, &p.recorded, &p.found)),
     }
 }
 
@@ -60,7 +68,9 @@ fn by_plain(call: usize, p: &Plant, b: &mut Room) -> i64 {
             b.length = certificate::write(&p.table, &p.recorded, &p.found, &mut b.work, &mut b.certificate).unwrap();
             b.length as i64
         }
-        _ => certificate::check(&p.table, &p.recorded, &p.found, &b.certificate[..b.length]) as i64,
+        3 => certificate::check(&p.table, &p.recorded, &p.found, &b.certificate[..b.length]) as i64,
+        4 => plain::start(&p.table, &p.recorded, &p.found, &b.work).map_or_else(i64::from, |_| 0),
+        _ => both(certificate::sizes(&p.table, &p.recorded, &p.found)),
     }
 }
 
@@ -117,9 +127,9 @@ fn stack_used(call: usize, plants: &[Plant], f: fn(usize, &Plant, &mut Room) -> 
 
 fn main() {
     let mut random = Random(88172645463325252);
-    let mut worst = [0.0f64; 4];
+    let mut worst = [0.0f64; CALLS.len()];
     for shape in ["path", "random tree", "balanced hubs", "hubs in a row"] {
-        let mut before = [0.0; 4];
+        let mut before = [0.0; CALLS.len()];
         for n in [16, 32, 64] {
             let plants: Vec<Plant> = (0..PLANTS).map(|i| plant(shape, n, i, &mut random)).collect();
             plants.iter().for_each(|p| agree(p, n));

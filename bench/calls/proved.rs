@@ -5,6 +5,10 @@ fn inputs<'a>(table: &'a [u8], recorded: &'a [u8], found: &'a [u8]) -> Inputs<'a
     Inputs { table, recorded, found }
 }
 
+pub fn sizes(t: &[u8], r: &[u8], f: &[u8]) -> Result<(usize, usize), u32> {
+    pensummer::sizes(inputs(t, r, f)).map(|s| (s.work, s.certificate)).map_err(Refusal::number)
+}
+
 pub fn match_trees(t: &[u8], r: &[u8], f: &[u8], work: &mut [i32], mapping: &mut [u8]) -> Result<i32, u32> {
     pensummer::match_trees(inputs(t, r, f), work, mapping).map_err(Refusal::number)
 }

@@ -33,15 +33,24 @@ static void show_job(const char *call, unsigned refusal, const struct pensummer_
     printf("%s %u job %u %u %u %u %u\n", call, refusal, (unsigned)j->idle, (unsigned)j->n, (unsigned)j->m, (unsigned)j->position, (unsigned)j->total);
 }
 
+static void show_sizes(struct pensummer_sizes_result s) {
+    printf("sizes %u %u %u %u\n", (unsigned)s.refusal, (unsigned)s.subproblems, (unsigned)s.work, (unsigned)s.certificate);
+}
+
 int main(void) {
-    printf("sizes %zu %zu %zu %zu\n", sizeof(struct pensummer_job), sizeof(struct pensummer_match_result), sizeof(struct pensummer_advance_result),
-           sizeof(struct pensummer_write_result));
+    printf("structs %zu %zu %zu %zu %zu\n", sizeof(struct pensummer_job), sizeof(struct pensummer_match_result), sizeof(struct pensummer_advance_result),
+           sizeof(struct pensummer_write_result), sizeof(struct pensummer_sizes_result));
+
+    struct pensummer_sizes_result sizes = pensummer_sizes(PLANT);
+    show_sizes(sizes);
+    show_sizes(pensummer_sizes(table, LEN(table) - 1, recorded, LEN(recorded), found, LEN(found)));
+    show_sizes(pensummer_sizes(table, LEN(table), recorded, LEN(recorded), table, LEN(table)));
 
     clear();
     show_match("match", pensummer_match(PLANT, work, LEN(work), mapping, LEN(mapping)));
     show_work();
     clear();
-    show_match("match", pensummer_match(PLANT, work, 7, mapping, LEN(mapping)));
+    show_match("match", pensummer_match(PLANT, work, sizes.work - 1, mapping, LEN(mapping)));
     show_match("match", pensummer_match(PLANT, work, LEN(work), mapping, 1));
     show_work();
 
@@ -50,7 +59,7 @@ int main(void) {
     struct pensummer_advance_result a = pensummer_advance(&job, PLANT, 5, work, LEN(work));
     show_job("advance", a.refusal, &job);
     job.total = 4294967290u;
-    show_job("start", pensummer_start(&job, PLANT, work, 7), &job);
+    show_job("start", pensummer_start(&job, PLANT, work, sizes.work - 1), &job);
     show_job("start", pensummer_start(&job, PLANT, work, LEN(work)), &job);
     a = pensummer_advance(&job, PLANT, 5, work, LEN(work));
     printf("count %u\n", (unsigned)a.count);
@@ -64,12 +73,12 @@ int main(void) {
     show_match("finish", pensummer_finish(&job, PLANT, work, LEN(work), mapping, LEN(mapping)));
 
     clear();
-    struct pensummer_write_result w = pensummer_write(PLANT, work, LEN(work), certificate, 93);
+    struct pensummer_write_result w = pensummer_write(PLANT, work, LEN(work), certificate, sizes.certificate - 1);
     printf("write %u %u\n", (unsigned)w.refusal, (unsigned)w.length);
     show_work();
-    certificate[94] = 99;
+    certificate[sizes.certificate] = 99;
     w = pensummer_write(PLANT, work, LEN(work), certificate, LEN(certificate));
-    printf("write %u %u tail %u\n", (unsigned)w.refusal, (unsigned)w.length, certificate[94]);
+    printf("write %u %u tail %u\n", (unsigned)w.refusal, (unsigned)w.length, certificate[sizes.certificate]);
     show_work();
     printf("check %u %u\n", (unsigned)pensummer_check(PLANT, certificate, w.length), (unsigned)pensummer_check(PLANT, certificate, LEN(certificate)));
     return 0;

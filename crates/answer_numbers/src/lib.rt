@@ -1,6 +1,7 @@
 //! The answers and the caller's record of a job as numbers, which C can hold.
 pub mod certificate_numbers;
 pub mod job_numbers;
+pub mod size_numbers;
 
 use model::MatchAnswer;
 ghost use mathlib.Core.Path.{_≡_};

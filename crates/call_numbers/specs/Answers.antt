@@ -13,6 +13,7 @@ use Rattle.model.specs.declared.StartOutcome.{StartOutcome}
 use Rattle.model.specs.declared.AdvanceOutcome.{AdvanceOutcome}
 use Rattle.model.specs.declared.MatchAnswer.{MatchAnswer}
 use Rattle.model.specs.declared.WriteAnswer.{WriteAnswer}
+use Rattle.model.specs.declared.SizesAnswer.{SizesAnswer}
 use Rattle.model.specs.Tree.{count}
 use Rattle.model.specs.Calls.{matchItem}
 use Rattle.model.specs.Mapping.{Heaviest, weight}
@@ -21,6 +22,7 @@ use Rattle.model.specs.Match.{refusalOf, weightOf, MatchCall}
 use Rattle.model.specs.Jobs.{startItem, advanceItem, finishItem, startOf, startRefusal, advanceOf, advanceWork, advanceRefusal, advanceCount, advanceSolves, StartCall, AdvanceCall, FinishCall}
 use Rattle.model.specs.Certificate.{certificateLength, weightIn, mappingIn, valueIn, checkOf}
 use Rattle.model.specs.Writing.{writeItem, writeRefusal, lengthOf, WriteCall}
+use Rattle.model.specs.Sizes.{sizesRefusal, sizesCount, sizesWork, sizesLength, SizesNumbers, SizesCall}
 use Rattle.jobs.specs.Theorems.{finish-refusal}
 use Rattle.answer_numbers.specs.declared.job_numbers.JobMemory.{JobMemory}
 use Rattle.answer_numbers.specs.Memory.{recordOf, memoryAfter, startMemory, advanceMemory}
@@ -122,3 +124,9 @@ writes {table} {r} {f} {work} {certificate} {work′} {certificate′} {a} {refu
       weight-in = λ z. subst (λ (x : ℕ). weightIn (take x certificate′) ≡ answer table r f) (long z) (call .written (sym is ∙ z) .weight-in);
       heaviest-in = λ z. subst (λ (x : ℕ). Heaviest table r f (mappingIn r (take x certificate′))) (long z) (call .written (sym is ∙ z) .heaviest-in);
     }
+
+pub sizes-numbers : {table r f : List ℕ} {a : SizesAnswer} {refusal s w c : ℕ}
+    → SizesCall table r f a → refusal ≡ sizesRefusal a → s ≡ sizesCount a → w ≡ sizesWork a → c ≡ sizesLength a → SizesNumbers table r f refusal s w c
+sizes-numbers call k s w c =
+    let n = call .numbers in
+    record { number = k ∙ n .number; counts = s ∙ n .counts; wants = w ∙ n .wants; measures = c ∙ n .measures }

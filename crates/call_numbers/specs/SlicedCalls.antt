@@ -27,13 +27,13 @@ pub data CallsMade (table r f : List ℕ) : ℕ → JobMemory → List ℤ → T
       → CallsMade table r f (sum + b) x′ work′
 
 -- the records that the memory stands for go through a job in slices
-record AsJob (table r f : List ℕ) (sum : ℕ) (x : JobMemory) (left : List ℤ) : Type 0 where
-  first : JobRecord
-  work : List ℤ
-  passes : startItem table r f work ≡ 0
-  chain : Sliced table r f first work sum (recordOf x) left
+pub record AsJob (table r f : List ℕ) (sum : ℕ) (x : JobMemory) (left : List ℤ) : Type 0 where
+  pub first : JobRecord
+  pub work : List ℤ
+  pub passes : startItem table r f work ≡ 0
+  pub chain : Sliced table r f first work sum (recordOf x) left
 
-as-job : {table r f : List ℕ} {sum : ℕ} {x : JobMemory} {left : List ℤ} → CallsMade table r f sum x left → AsJob table r f sum x left
+pub as-job : {table r f : List ℕ} {sum : ℕ} {x : JobMemory} {left : List ℤ} → CallsMade table r f sum x left → AsJob table r f sum x left
 as-job {table} {r} {f} (started {x} {x′} {work} s) = record {
   first = recordOf x;
   work = work;

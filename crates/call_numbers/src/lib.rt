@@ -1,6 +1,7 @@
 //! The calls as numbers: the covered core of the C interface. `pensummer` holds the functions that a C program finds, each thin over one of these.
 pub mod certificate_numbers;
 pub mod job_numbers;
+pub mod size_numbers;
 
 use answer_numbers::MatchResult;
 use answer_numbers::numbers;

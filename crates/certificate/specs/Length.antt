@@ -234,19 +234,20 @@ module _ (f : List ℕ) (t : IsTree f) (few : (v : ℕ) → v < count f → leng
       pick (inl two) = last (so-far two (count f) (omega arith))
       pick (inr h) = let e : count f ≡ 1 = omega (arith, one) in rw e (alone f (rw e at w))
 
-pub length-most : (table r f : List ℕ) → inputItem table r f ≡ 0 → certificateLength r f ≤ certificateLimit
+pub length-few : (r f : List ℕ) → count r ≤ vertexLimit → count f ≤ vertexLimit → squares f (count f) ≤ squareLimit → certificateLength r f ≤ certificateLimit
 unfolding certificateLength subproblems width
-length-most table r f e =
-    let A = input-accepted table r f e in
-    let nr : count r ≤ vertexLimit = recorded-tree A .ends .few in
-    let nf : count f ≤ vertexLimit = found-tree A .ends .few in
-    let q = squares-most f (found-tree A) (λ v l. few-neighbours f _ _ (A .found) v l) in
+length-few r f nr nf q =
     let one-less : count r - 1 ≤ vertexLimit - 1 = omega arith in
     let wide : 3 * count f - 2 ≤ widthLimit = omega arith in
     let a : count r * (3 * count f - 2) ≤ vertexLimit * widthLimit = mul-le-mul nr wide in
     let b : (count r - 1) * (3 * count f - 2) ≤ (vertexLimit - 1) * widthLimit = mul-le-mul one-less wide in
     let c : count r * squares f (count f) ≤ vertexLimit * squareLimit = mul-le-mul nr q in
     omega arith
+
+pub length-most : (table r f : List ℕ) → inputItem table r f ≡ 0 → certificateLength r f ≤ certificateLimit
+length-most table r f e =
+    let A = input-accepted table r f e in
+    length-few r f (recorded-tree A .ends .few) (found-tree A .ends .few) (squares-most f (found-tree A) (λ v l. few-neighbours f _ _ (A .found) v l))
 
 -- the paper's number
 most-is : certificateLimit ≡ 278736

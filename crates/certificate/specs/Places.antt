@@ -4,6 +4,7 @@ use mathlib.Core.Logic.{⊎-elim}
 use mathlib.Core.List.{List}
 use Prim.Native.Nat.{ℕ, zero, suc, _+_, _*_, _-_, _≤_, _<_}
 use native.Mathlib.Omega.{arith}
+use native.Mathlib.Numerals.{add-one}
 use native.Mathlib.Nat.{mul-le-mul}
 use lib.ListN.{length, getD}
 use Rattle.foundations.specs.Tests.{same?}
@@ -101,6 +102,15 @@ squares-few f K L p v h =
     let a = squares-up f v (count f) h in
     let b = squares-most f (record { ends = p .ends; loopless = p .tree }) (λ v l. few-neighbours f K L p v l) in
     omega arith
+
+-- of no vertex, and of one more, of degree d
+pub squares-first : (f : List ℕ) → 0 ≡ squares f 0
+unfolding squares
+squares-first f = refl
+
+pub squares-add : (f : List ℕ) (K L : ℕ) → Passed f K L → (v d sum : ℕ) → v < count f → d ≡ length (neighbours f v) → sum ≡ squares f v → (sum + d * d ≡ squares f (v + 1)) × (squares f (v + 1) ≤ squareLimit)
+unfolding squares
+squares-add f K L p v d sum l e g = (rw (add-one v, e, g), squares-few f K L p (v + 1) (omega arith))
 
 -- ---- for inputs that items 1 to 12 let pass
 

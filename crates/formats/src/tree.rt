@@ -250,7 +250,7 @@ fn second(a: u8, b: u8) -> u8
 }
 
 // How many edges end at each vertex.
-fn degrees(s: &[u8], n: usize) -> VertexTable
+pub fn degrees(s: &[u8], n: usize) -> VertexTable
     requires { ⌜ Ends (now s) n ⌝ }
     ensures { λ r. ⌜ r ≡ tab (λ v. degree (now (s .entry)) n v (n - 1)) vertexLimit ⌝ }
 {

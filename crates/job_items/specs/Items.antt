@@ -104,7 +104,7 @@ module _ (table r f : List ℕ) (work : List ℤ) where
           off : _≡_ {A = ℕ} 13 0 → ⊥
           off e = omega arith
 
-  start-numbered : Numbered (startItems table r f work)
+  pub start-numbered : Numbered (startItems table r f work)
   start-numbered = numbered-append (input-numbered table r f) (more {k = 13} (omega arith) end)
 
   -- ---- a call that tests 1 to 13 and one item more (the match in one call 18, writing a certificate 19), which applies where x is less than y

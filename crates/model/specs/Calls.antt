@@ -1,5 +1,5 @@
 -- The items that a call tests, in its order. Paper 01, last paragraph of "Why a call is turned down". Every call begins with 1 to 12; the lists of
--- the job calls are in Jobs, of writing in Writing, of the check in Certificate.
+-- the job calls are in Jobs, of writing in Writing, of the check in Certificate. How much to lend (Sizes) tests no others.
 use mathlib.Core.List.{List, [], _∷_, _++_}
 use Prim.Native.Nat.{ℕ}
 use lib.ListN.{length}

@@ -1,4 +1,4 @@
--- Paper 01 as definitions. This is the text that a reader must believe.
+-- Paper 01 as definitions, and what paper 02 adds. This is the text that a reader must believe.
 pub mod Limits
 pub mod Bytes
 pub mod Weights
@@ -18,3 +18,4 @@ pub mod Match
 pub mod Jobs
 pub mod Certificate
 pub mod Writing
+pub mod Sizes

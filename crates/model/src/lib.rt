@@ -120,6 +120,17 @@ pub enum WriteAnswer {
     Refused(u8),
 }
 
+// The answer to how much to lend: the count of subproblems, the work numbers wanted and the certificate's length in bytes, or the number of the item
+// that refused the call.
+pub enum SizesAnswer {
+    Sizes {
+        subproblems: u32,
+        work: u32,
+        certificate: u32,
+    },
+    Refused(u8),
+}
+
 // Each constant is the number of the definitions: a change of one side alone is refused here.
 fn weights()
     ensures { λ _. do ⌜ (← ⟦Limits::WEIGHT⟧ .exit) ≡ pos weightLimit ⌝ }

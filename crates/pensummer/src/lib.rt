@@ -1,6 +1,7 @@
 //! The C interface: what a C or Rust program calls, as numbers, slices and plain structs. The work is done in the other crates.
 pub mod certificate_calls;
 pub mod job_calls;
+pub mod size_calls;
 
 use answer_numbers::MatchResult;
 use call_numbers::match_numbers;

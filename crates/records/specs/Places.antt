@@ -21,7 +21,7 @@ use Rattle.trees.specs.Accepted.{Sound}
 use Rattle.trees.specs.Neighbours.{few-neighbours}
 use Rattle.trees.specs.Positions.{sub-at, position-of, offset-up}
 use Rattle.certificate.specs.Length.{record-inside, length-most}
-use Rattle.certificate.specs.Places.{othersBefore, rowSize, record-place, row-step, rows-end, record-begins, place-in, row-begins, squares-few}
+use Rattle.certificate.specs.Places.{othersBefore, rowSize, record-place, row-step, rows-end, record-begins, place-in, row-begins, squares-first, squares-add}
 use Rattle.plan.specs.Plan.{childCountIn, orderIn, degreeIn, offsetIn, Ready}
 use Rattle.plan.specs.Numbers.{Located, ready-recorded, ready-sound, width-few, offset-width, offsets-are, number-u, number-v, number-s}
 
@@ -71,10 +71,6 @@ pub record FoundKnown (f : List ℕ) (plan : List (List ℕ)) (v : ℕ) : Type 0
   pub offset-low : offsetIn plan v ≤ widthLimit
 
 -- ---- no sum yet
-
-pub squares-first : (f : List ℕ) → 0 ≡ squares f 0
-unfolding squares
-squares-first f = refl
 
 pub squares-none : (f : List ℕ) (places : List (List ℕ)) → length places ≡ prefixLimit → SquaresTo f 0 (set places 0 (0 ∷ 0 ∷ []))
 squares-none f places e = record {
@@ -128,10 +124,7 @@ module _ {r f : List ℕ} {plan : List (List ℕ)} (I : Inputs r f plan) where
       record { low = omega arith; degree = P .degree; few = few-neighbours f _ _ (inputs-found .passed) v l; offset-low = omega arith }
 
   pub squares-next : (v d sum : ℕ) → v < count f → d ≡ degreeIn plan v → sum ≡ squares f v → (sum + d * d ≡ squares f (v + 1)) × (squares f (v + 1) ≤ squareLimit)
-  unfolding squares
-  squares-next v d sum l e g =
-      let D : d ≡ length (neighbours f v) = e ∙ I .ready .planned .found v l .degree in
-      (rw (add-one v, D, g), squares-few f _ _ (inputs-found .passed) (v + 1) (omega arith))
+  squares-next v d sum l e g = squares-add f _ _ (inputs-found .passed) v d sum l (e ∙ I .ready .planned .found v l .degree) g
 
   pub squares-more : {places : List (List ℕ)} (v x : ℕ) → v < count f → SquaresTo f v places → x ≡ squares f (v + 1) → SquaresTo f (v + 1) (set places (v + 1) (0 ∷ x ∷ []))
   squares-more {places} v x l B e =

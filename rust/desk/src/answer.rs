@@ -5,7 +5,7 @@ use crate::graph::Graph;
 use crate::plant::{At, Fault, Place, Plant};
 use crate::text::Text;
 use crate::words::{is_digits, quote};
-use pensummer::{Refusal, FORBIDDEN, NONE, VERTICES_MOST, WORK_MOST};
+use pensummer::{Refusal, FORBIDDEN, NONE};
 use std::rc::Rc;
 
 /// Whether every heaviest mapping agrees on a vertex.
@@ -38,10 +38,10 @@ pub struct Answer<'a> {
 
 /// The match in one call: the weight, and the partners.
 pub fn heaviest(bytes: &Bytes) -> Result<(i32, Vec<Option<usize>>), Refusal> {
-    let (mut work, mut mapping) = (vec![0; WORK_MOST], [NONE; VERTICES_MOST]);
+    let sizes = pensummer::sizes(bytes.inputs())?;
+    let (mut work, mut mapping) = (vec![0; sizes.work], vec![NONE; bytes.recorded[2].into()]);
     let weight = pensummer::match_trees(bytes.inputs(), &mut work, &mut mapping)?;
-    let partners = mapping[..usize::from(bytes.recorded[2])].iter();
-    Ok((weight, partners.map(|&v| if v == NONE { None } else { Some(v.into()) }).collect()))
+    Ok((weight, mapping.iter().map(|&v| if v == NONE { None } else { Some(v.into()) }).collect()))
 }
 
 /// Why an answer that a person gave is none.

@@ -100,9 +100,8 @@ impl Input {
 
     /// The plant, if the library accepts the table and both trees.
     pub fn accepted(&self) -> Result<&Plant, Refused> {
-        // a start tests the items 1 to 12 and the room for work numbers, and solves nothing
-        let work = vec![0; pensummer::WORK_MOST];
-        pensummer::Job::fresh().start(self.bytes.inputs(), &work).map_err(|refusal| self.refused(refusal))?;
+        // the call that tests the items 1 to 12 and nothing else
+        pensummer::sizes(self.bytes.inputs()).map_err(|refusal| self.refused(refusal))?;
         match &self.plant {
             Ok(plant) => Ok(plant),
             Err(_) => unreachable!("bytes of another shape are refused"),

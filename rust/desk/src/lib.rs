@@ -19,6 +19,7 @@ pub mod print;
 pub mod report;
 pub mod run;
 pub mod say;
+mod sizes;
 mod table_text;
 pub mod text;
 mod tree_text;

@@ -8,17 +8,17 @@ use crate::json::Json;
 use crate::plant::{At, Fault, Place, Plant};
 use crate::report::Report;
 use crate::run::Failure;
-use pensummer::{CERTIFICATE_MOST, FORBIDDEN, NONE, WORK_MOST};
+use pensummer::{FORBIDDEN, NONE};
 
 type Done = Result<(), Failure>;
 
 /// Writes a certificate to the file that the call names.
 pub fn write(call: &Call, input: &Input) -> Done {
     let output = call.output.as_deref().unwrap_or("-");
-    let (mut work, mut bytes) = (vec![0; WORK_MOST], vec![0; CERTIFICATE_MOST]);
-    let length = pensummer::write_certificate(input.bytes.inputs(), &mut work, &mut bytes)
-        .map_err(|refusal| Failure::Refused(input.refused(refusal)))?;
-    bytes.truncate(length);
+    let refused = |refusal| input.refused(refusal);
+    let sizes = pensummer::sizes(input.bytes.inputs()).map_err(refused)?;
+    let (mut work, mut bytes) = (vec![0; sizes.work], vec![0; sizes.certificate]);
+    let length = pensummer::write_certificate(input.bytes.inputs(), &mut work, &mut bytes).map_err(refused)?;
     files::write(output, &bytes)?;
     let said = if call.json {
         let weight = certificate::read(input.accepted()?, &bytes).ok().map(|read| read.weight.into());

@@ -15,6 +15,7 @@ pub struct Report<'a> {
     pub answer: Option<&'a Answer<'a>>,
     pub weight: Option<i64>,
     pub certificate: Option<Json>,
+    pub sizes: Option<Json>,
 }
 
 impl Report<'_> {
@@ -31,6 +32,7 @@ impl Report<'_> {
             ("recorded", recorded.into()),
             ("found", found.into()),
             ("certificate", self.certificate.into()),
+            ("sizes", self.sizes.into()),
         ]);
         format!("{report}\n")
     }

@@ -75,6 +75,7 @@ pub fn run(call: &Call) -> Done {
         "text" => write_text(call, &input),
         "write" => crate::office::write(call, &input),
         "check" => crate::office::check(call, &input),
+        "sizes" => crate::sizes::sizes(call, &input),
         _ => crate::office::show(call, &input),
     }
 }

@@ -12,7 +12,7 @@ pub struct Command {
     pub help: &'static str,
 }
 
-pub const COMMANDS: [Command; 8] = [
+pub const COMMANDS: [Command; 9] = [
     Command {
         name: "match",
         takes: "PLANT..",
@@ -92,6 +92,16 @@ pub const COMMANDS: [Command; 8] = [
         about: "show what a certificate holds, and which rule it breaks if it does",
         help: "The weight, the mapping, and each subproblem's value and duals, also of a\n\
                certificate that is not accepted, unless its form is wrong (item 20).",
+    },
+    Command {
+        name: "sizes",
+        takes: "PLANT..",
+        certificate: false,
+        options: &["--json"],
+        about: "say how much memory the calls of the library are to be lent",
+        help: "How many subproblems a job solves from its start to its end, how many work\n\
+               numbers of 4 bytes it is to be lent, and the bytes of a mapping and of a\n\
+               certificate. Nothing is solved.",
     },
 ];
 

@@ -653,7 +653,7 @@ fn json_of_small_plant_3_whole() {
     let found = [vertex(0, 1, 1, 3, "null"), vertex(1, 0, 0, 5, "null")].join(",");
     let expected = format!(
         "{{\"command\":\"match\",\"status\":\"done\",\"refusal\":null,\"weight\":9,\"recorded\":[{recorded}],\
-         \"found\":[{found}],\"certificate\":null}}\n"
+         \"found\":[{found}],\"certificate\":null,\"sizes\":null}}\n"
     );
     assert_eq!(out(THREE, &["match", "--json"]), expected);
 }

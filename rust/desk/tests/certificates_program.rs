@@ -284,7 +284,7 @@ fn json_of_write_stands_beside_a_certificate_on_standard_output() {
 fn json_of_check_leaves_the_lists_out() {
     let folder = written(THREE);
     let expected = "{\"command\":\"check\",\"status\":\"done\",\"refusal\":null,\"weight\":9,\"recorded\":null,\"found\":null,\
-                    \"certificate\":{\"length\":94,\"accepted\":true,\"mapping\":null,\"subproblems\":null}}\n";
+                    \"certificate\":{\"length\":94,\"accepted\":true,\"mapping\":null,\"subproblems\":null},\"sizes\":null}\n";
     assert_eq!(folder.run(&["check", "--json", "p", "c"]), said(expected, "", 0));
     report(expected);
 }

@@ -9,7 +9,7 @@ use std::time::{Duration, Instant};
 use support::plants::{examples, of_repository, three_bytes, LOOP, NINE, ONE, THREE, THREE_PLAIN};
 use support::{fifo, ran, said, waited, Folder, Ran, PROGRAM};
 
-const COMMANDS: [&str; 8] = ["match", "listing", "picture", "plant", "text", "write", "check", "show"];
+const COMMANDS: [&str; 9] = ["match", "listing", "picture", "plant", "text", "write", "check", "show", "sizes"];
 
 const MATCH_USAGE: &str = "usage: pensummer match PLANT.. [--plain] [--answer FILE] [--json]\n";
 
@@ -31,6 +31,8 @@ fn calls() -> Vec<Vec<&'static str>> {
         vec!["check", "--json", "p", "c"],
         vec!["show", "p", "c"],
         vec!["show", "--json", "p", "c"],
+        vec!["sizes", "p"],
+        vec!["sizes", "--json", "p"],
         vec!["--help"],
         vec!["help", "match"],
         vec!["--version"],

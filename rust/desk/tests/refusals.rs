@@ -28,7 +28,7 @@ fn refused(text: &str, item: usize, place: &str) {
     let folder = Folder::with(&[("p", text), ("c", "")]);
     let sentence = SENTENCES[item - 1];
     let people = format!("pensummer: refused {item}: {sentence}\np:{place}\n");
-    for call in [&["match"][..], &["listing"], &["picture"], &["picture", "-o", "w"], &["write", "-o", "w"]] {
+    for call in [&["match"][..], &["listing"], &["picture"], &["picture", "-o", "w"], &["write", "-o", "w"], &["sizes"]] {
         assert_eq!(folder.run(&[call, &["p"]].concat()), said("", people.clone(), 1), "{call:?}");
     }
     assert_eq!(folder.run(&["show", "p", "c"]), said("", people.clone(), 1));
@@ -42,7 +42,8 @@ fn refused(text: &str, item: usize, place: &str) {
 fn json(folder: &Folder, item: usize, place: &str) {
     let mut words = place.splitn(3, ':').map(str::trim);
     let [line, column] = [0, 1].map(|_| Value::Number(words.next().and_then(|word| word.parse().ok()).expect("a number")));
-    for call in [&["match", "p"][..], &["listing", "p"], &["write", "-o", "w", "p"], &["check", "p", "c"], &["show", "p", "c"]] {
+    let of_plant = [&["match", "p"][..], &["listing", "p"], &["write", "-o", "w", "p"], &["sizes", "p"]];
+    for call in of_plant.iter().copied().chain([&["check", "p", "c"][..], &["show", "p", "c"]]) {
         let (out, err, status) = folder.run(&[call, &["--json"]].concat());
         assert_eq!((err.as_str(), status), ("", 1), "{call:?}");
         let report = report(&out);

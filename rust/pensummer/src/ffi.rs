@@ -38,7 +38,27 @@ pub struct WriteResult {
     pub length: u32,
 }
 
+/// The answer to how much to lend: the refusal's number, 0 if none, and then how many subproblems there are, how many
+/// work numbers are wanted, and a certificate's length.
+#[repr(C)]
+#[derive(Clone, Copy, Debug, PartialEq, Eq)]
+pub struct SizesResult {
+    pub refusal: u32,
+    pub subproblems: u32,
+    pub work: u32,
+    pub certificate: u32,
+}
+
 extern "C" {
+    pub fn pensummer_sizes(
+        table: *const u8,
+        table_len: usize,
+        recorded: *const u8,
+        recorded_len: usize,
+        found: *const u8,
+        found_len: usize,
+    ) -> SizesResult;
+
     pub fn pensummer_match(
         table: *const u8,
         table_len: usize,

@@ -1,11 +1,12 @@
 //! Pensummer for Rust: a heaviest common subtree isomorphism of two labelled trees under a weight table, in one call or
-//! as a job in slices; writing a certificate of optimality, and checking one.
+//! as a job in slices; writing a certificate of optimality, and checking one; how much memory to lend for it.
 //!
 //! Everything is done by the proved archive `libpensummer.a`; this crate declares its functions ([`ffi`]) and wraps
 //! them safely. It lends the caller's buffers and allocates nothing. The bytes of a table, a tree and a certificate,
 //! and what each refusal means, are in `docs/FORMAT.md`; what each call promises is in `include/pensummer.h`.
 //!
 //! ```ignore
+//! // always enough; `sizes` says how much two trees take
 //! let (mut work, mut mapping) = ([0; pensummer::WORK_MOST], [0; pensummer::VERTICES_MOST]);
 //! match pensummer::match_trees(Inputs { table, recorded, found }, &mut work, &mut mapping) {
 //!     Ok(weight) => ..,             // partners are in mapping, NONE where there is none
@@ -60,6 +61,17 @@ pub struct Inputs<'a> {
     pub found: &'a [u8],
 }
 
+/// How much to lend for two trees: see [`sizes`].
+#[derive(Clone, Copy, Debug, PartialEq, Eq)]
+pub struct Sizes {
+    /// What the counts of a job's advances add up to when nothing is left to solve.
+    pub subproblems: u32,
+    /// The work numbers wanted: with so many no call is refused by item 13, with fewer each is that tests it.
+    pub work: usize,
+    /// The length of a certificate in bytes: what a writing wants and gives back, and a check takes.
+    pub certificate: usize,
+}
+
 /// The result of a call that was carried out, else its refusal.
 fn result<T>(refusal: u32, value: T) -> Result<T, Refusal> {
     match Refusal::of(refusal) {
@@ -82,6 +94,13 @@ macro_rules! lend {
             )
         }
     };
+}
+
+/// How much to lend for these trees, so that memory can be set aside first. Tests the items 1 to 12. Solves nothing. A
+/// mapping takes n bytes.
+pub fn sizes(i: Inputs) -> Result<Sizes, Refusal> {
+    let r = lend!(pensummer_sizes, [], i, []);
+    result(r.refusal, Sizes { subproblems: r.subproblems, work: r.work as usize, certificate: r.certificate as usize })
 }
 
 /// The match in one call: a heaviest mapping in the first n bytes of `mapping`, and its weight. Tests the items 1 to 13

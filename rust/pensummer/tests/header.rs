@@ -191,6 +191,14 @@ fn listed() -> Vec<Vec<u8>> {
     parts
 }
 
+/// The number that docs/FORMAT.md has for the example, in the last cell of the row of this name, on how much to lend.
+fn lent(name: &str) -> usize {
+    let format = text("docs/FORMAT.md");
+    let section = format.split("\n## ").find(|section| section.starts_with("How much to lend")).expect("a section");
+    let row = section.lines().find(|line| line.starts_with(&format!("| `{name}` |"))).expect(name);
+    row.trim_matches([' ', '|'].as_slice()).rsplit('|').next().unwrap().trim().parse().expect(row)
+}
+
 /// The example of docs/FORMAT.md is the match program's input, and its certificate is the one that is written.
 #[test]
 fn format_bytes() {
@@ -200,9 +208,11 @@ fn format_bytes() {
     let input = fs::read(Path::new(env!("CARGO_MANIFEST_DIR")).join("../../crates/matcher/stdin")).unwrap();
     assert_eq!([&table[..], recorded, found].concat(), input);
     let i = pensummer::Inputs { table, recorded, found };
-    let (mut work, mut room) = ([0; 8], [0; 94]);
-    assert_eq!(pensummer::write_certificate(i, &mut work, &mut room), Ok(94));
-    assert_eq!(&room[..], &certificate[..]);
+    let sizes = pensummer::sizes(i).unwrap();
+    assert_eq!([sizes.subproblems as usize, sizes.work, sizes.certificate], ["subproblems", "work", "certificate"].map(lent));
+    let (mut work, mut room) = (vec![0; sizes.work], vec![0; sizes.certificate]);
+    assert_eq!(pensummer::write_certificate(i, &mut work, &mut room), Ok(sizes.certificate));
+    assert_eq!(&room, certificate);
     assert_eq!(work, [3, 3, -2, -2, -2, -2, 9, 5]);
     assert_eq!(pensummer::check_certificate(i, certificate), Ok(()));
     let mut mapping = [0; 2];

@@ -1,12 +1,12 @@
 //! Each exported call run once over lent memory that was filled with junk, and everything that it gives back or leaves behind compared with
 //! what the paper says: the first item that applies, or the result; every byte and number lent, the room after it and around it included.
 
-use crate::certificate;
+use crate::certificate::{self, Record, HEAD, PARTNER};
 use crate::mapping;
 use crate::random::Random;
 use crate::reading::{number_at, Inputs, Plant, FORBIDDEN};
 use crate::values::{self, Order, MOST};
-use pensummer::{Job, Refusal};
+use pensummer::{Job, Refusal, Sizes};
 
 /// Numbers in a record's `idle` that say that no job is running.
 pub const IDLE: [u32; 9] = [1, 2, 255, 256, 257, 1 << 16, 1 << 24, 1 << 31, u32::MAX];
@@ -93,6 +93,23 @@ impl Solved {
             Ok(self)
         }
     }
+}
+
+/// How much to lend: items 1 to 12. The numbers must be those of a count: the subproblems one by one, a certificate record by record. Gives
+/// back the refusal, or the numbers.
+pub fn sizes(inputs: &Inputs) -> Result<Sizes, u32> {
+    let expected = Plant::read(inputs).map(|plant| {
+        let order = Order::of(&plant);
+        let records: usize = certificate::records(&plant, &order).iter().map(Record::length).sum();
+        let count = order.subproblems.len();
+        Sizes { subproblems: count as u32, work: count, certificate: HEAD + PARTNER * plant.n() + records }
+    });
+    let mut lent = inputs.clone();
+    let result = pensummer::sizes(lent.lent()).map_err(Refusal::number);
+    look_again(&mut lent);
+    assert!(lent == *inputs, "sizes changed its inputs{inputs:?}");
+    assert_eq!(result, expected, "sizes{inputs:?}");
+    result
 }
 
 /// The match in one call: items 1 to 13 and 18. Gives back the refusal, or the mapping.
@@ -311,8 +328,8 @@ pub struct Lending {
     pub certificate: Vec<u8>,
 }
 
-/// Every call on the same inputs. Gives back the numbers: match, start, advance, finish, write, check.
-pub fn every_call(inputs: &Inputs, lending: &Lending, random: &mut Random) -> [u32; 6] {
+/// Every call on the same inputs. Gives back the numbers: match, start, advance, finish, write, check, sizes.
+pub fn every_call(inputs: &Inputs, lending: &Lending, random: &mut Random) -> [u32; 7] {
     let number = |result: Result<(), u32>| result.err().unwrap_or(0);
     let mut job = lending.job;
     let started = start(&mut job, inputs, &lending.work, random);
@@ -325,5 +342,6 @@ pub fn every_call(inputs: &Inputs, lending: &Lending, random: &mut Random) -> [u
         number(finish(&lending.job, inputs, &lending.work, lending.mapping_room, random).map(|_| ())),
         number(write(inputs, lending.work.len(), lending.certificate_room, random).map(|_| ())),
         check(inputs, &lending.certificate),
+        number(sizes(inputs).map(|_| ())),
     ]
 }

@@ -22,7 +22,8 @@ impl Written {
         let plant = Plant::read(&inputs).expect("an accepted plant");
         let order = Order::of(&plant);
         let records = certificate::records(&plant, &order);
-        let certificate = compare::write(&inputs, plant.subproblems(), certificate::length(&plant), random).expect("a written certificate");
+        let sizes = compare::sizes(&inputs).expect("an accepted plant");
+        let certificate = compare::write(&inputs, sizes.work, sizes.certificate, random).expect("a written certificate");
         Written { inputs, plant, order, records, certificate }
     }
 
@@ -107,8 +108,8 @@ fn buffers_short_exact_and_long() {
     let mut refusals = [0; 25];
     for _ in 0..400 {
         let inputs = plants::small_plant(&shapes, &mut random);
-        let plant = Plant::read(&inputs).expect("an accepted plant");
-        let (values, length) = (plant.subproblems(), certificate::length(&plant));
+        let sizes = compare::sizes(&inputs).expect("an accepted plant");
+        let (values, length) = (sizes.work, sizes.certificate);
         for numbers in [0, values - 1, values, values + 1, values + 7] {
             for room in [0, 7, length - 1, length, length + 1, length + 9] {
                 let result = compare::write(&inputs, numbers, room, &mut random);

@@ -2,7 +2,6 @@
 //! first item that applies and leaves all that it was lent as it was.
 
 use pensummer::Job;
-use pensummer_tests::certificate;
 use pensummer_tests::compare::{self, every_call, Lending, Solved, IDLE};
 use pensummer_tests::plants::{self, small_shapes, Weights};
 use pensummer_tests::random::Random;
@@ -13,14 +12,14 @@ fn lending(inputs: &Inputs, random: &mut Random) -> Lending {
     let solved = Solved::read(inputs).expect("an accepted plant");
     let (n, m, end) = (solved.plant.n(), solved.plant.m(), solved.values.len());
     let position = if random.once_in(2) { end } else { random.below(end + 1) };
-    let certificate_room = certificate::length(&solved.plant);
-    let certificate = compare::write(inputs, end, certificate_room, random).expect("a written certificate");
+    let sizes = compare::sizes(inputs).expect("an accepted plant");
+    let certificate = compare::write(inputs, sizes.work, sizes.certificate, random).expect("a written certificate");
     Lending {
         job: Job { idle: 0, n: n as u32, m: m as u32, position: position as u32, total: random.draw() as u32 },
         work: solved.values,
         budget: random.below(40) as u32,
         mapping_room: n,
-        certificate_room,
+        certificate_room: sizes.certificate,
         certificate,
     }
 }
@@ -44,7 +43,7 @@ impl Tally {
         Tally { inputs: 0, by_number: [0; 25] }
     }
 
-    fn add(&mut self, numbers: [u32; 6]) {
+    fn add(&mut self, numbers: [u32; 7]) {
         self.inputs += 1;
         for number in numbers {
             self.by_number[number as usize] += 1;

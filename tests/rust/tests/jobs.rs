@@ -179,7 +179,7 @@ fn altered_memory() {
     let (mut alterations, mut finished, mut refusals) = (0, 0, [0; 25]);
     for _ in 0..6_000 {
         let inputs = plants::small_plant(&shapes, &mut random);
-        let room = Plant::read(&inputs).expect("an accepted plant").subproblems();
+        let room = compare::sizes(&inputs).expect("an accepted plant").work;
         let mut kept = Kept { inputs, job: Job::fresh(), work: (0..room).map(|_| random.number()).collect() };
         compare::start(&mut kept.job, &kept.inputs, &kept.work, &mut random).expect("a start");
         for _ in 0..14 {

@@ -5,9 +5,10 @@ use pensummer_tests::certificate;
 use pensummer_tests::compare::{self, Solved};
 use pensummer_tests::plants::{self, large_shapes, Shape, Weights, WEIGHTS};
 use pensummer_tests::random::Random;
-use pensummer_tests::reading::{Inputs, Plant};
+use pensummer_tests::reading::Inputs;
 
-const VALUES: usize = 64 * 190;
+/// The work numbers that every plant of 64 by 64 vertices wants.
+const VALUES: usize = 12_160;
 
 /// A plant of two large shapes with these kinds of weights.
 fn large(recorded: &Shape, found: &Shape, vertex: Weights, edge: Weights, random: &mut Random) -> Inputs {
@@ -33,7 +34,8 @@ fn plants_of_middle_size() {
         let (recorded, found) = (plants::middle_shape(n, &mut random), plants::middle_shape(m, &mut random));
         let inputs = plants::plant(&recorded, &found, &mut random);
         let solved = Solved::read(&inputs).expect("an accepted plant");
-        let (values, length) = (solved.values.len(), certificate::length(&solved.plant));
+        let sizes = compare::sizes(&inputs).expect("an accepted plant");
+        let (values, length) = (sizes.work, sizes.certificate);
         compare::match_trees(&inputs, values + random.below(2), n + random.below(2), &mut random).expect("a match");
         let mut job = Job::fresh();
         let mut work: Vec<i32> = (0..values).map(|_| random.number()).collect();
@@ -150,7 +152,9 @@ fn certificates() {
             let vertex = *random.pick(&[Weights::Wide, Weights::Ties, Weights::Positive, Weights::Extremes, Weights::Forbidden]);
             let edge = *random.pick(&[Weights::Wide, Weights::Ties, Weights::Positive, Weights::Small]);
             let inputs = large(recorded, found, vertex, edge, &mut random);
-            let length = certificate::length(&Plant::read(&inputs).unwrap());
+            let sizes = compare::sizes(&inputs).expect("an accepted plant");
+            let length = sizes.certificate;
+            assert_eq!((sizes.subproblems as usize, sizes.work), (VALUES, VALUES), "{name}");
             assert!(length <= certificate::LONGEST);
             assert_eq!(length == certificate::LONGEST, name.contains("hubs"), "{name}: {length} bytes");
             assert_eq!(compare::write(&inputs, VALUES, length - 1, &mut random), Err(19));

@@ -21,7 +21,8 @@ fn heaviest_by_exhaustive_search() {
                 let plant = Plant::read(&inputs).expect("an accepted plant");
                 let (heaviest, count) = mapping::search(&plant);
                 // the room is exact or longer
-                let (numbers, bytes) = (plant.subproblems() + random.below(3), plant.n() + random.below(3));
+                let (numbers, bytes) =
+                    (compare::sizes(&inputs).expect("an accepted plant").work + random.below(3), plant.n() + random.below(3));
                 let mapping = compare::match_trees(&inputs, numbers, bytes, &mut random).expect("a match");
                 assert_eq!(mapping::weight(&plant, &mapping), heaviest, "the heaviest of {count} mappings{inputs:?}");
                 tried += 1;

@@ -22,14 +22,9 @@ fn star(labels: &[usize]) -> Vec<u8> {
     tree_bytes(labels, &edges)
 }
 
-fn room(inputs: &Inputs) -> (usize, usize) {
-    let (n, m) = (inputs.recorded[2] as usize, inputs.found[2] as usize);
-    (n * (3 * m - 2), n)
-}
-
 /// The weight and the mapping, with buffers just large enough.
 fn found_with(inputs: &Inputs, random: &mut Random) -> (i32, Vec<u8>) {
-    let (numbers, bytes) = room(inputs);
+    let (numbers, bytes) = (compare::sizes(inputs).expect("an accepted plant").work, inputs.recorded[2] as usize);
     let (mut work, mut mapping) = (vec![0x55; numbers], vec![0x55; bytes]);
     let weight = pensummer::match_trees(inputs.lent(), &mut work, &mut mapping);
     let weight = weight.unwrap_or_else(|refusal| panic!("{refusal}{inputs:?}"));

@@ -5,7 +5,8 @@ use Rattle.model.specs.Certificate.{squares}
 use Rattle.model.specs.Limits.{vertexLimit}
 use Rattle.model.specs.Tree.{count}
 use Rattle.trees.specs.Accepted.{whole}
-use Rattle.records.specs.Places.{SquaresTo, inputs-found, inputs-few, squares-first, squares-none, squares-next, squares-more}
+use Rattle.certificate.specs.Places.{squares-first}
+use Rattle.records.specs.Places.{SquaresTo, inputs-found, inputs-few, squares-none, squares-next, squares-more}
 use borrow.Author.Needs.{needs}
 use native.Mathlib.Omega.{arith}
 use Rattle.records.proofs.square_sums.Statement.{statement}

@@ -1,7 +1,7 @@
 //! Plants for the tests of certificates, built directly: small ones of the paper, one with names, random ones; the
 //! library over them.
 use desk::plant::{At, Edge, Place, Plant, Table, Tree, Vertex, Weights};
-use pensummer::{Inputs, CERTIFICATE_MOST, FORBIDDEN, VERTICES_MOST, WORK_MOST};
+use pensummer::{Inputs, Sizes, FORBIDDEN, VERTICES_MOST};
 
 pub const X: i32 = FORBIDDEN;
 
@@ -155,15 +155,20 @@ impl Bytes {
 
     /// The certificate that the library writes, and the values of all subproblems.
     pub fn written(&self) -> (Vec<u8>, Vec<i32>) {
-        let (mut work, mut certificate) = (vec![0; WORK_MOST], vec![0; CERTIFICATE_MOST]);
+        let sizes = self.sizes();
+        let (mut work, mut certificate) = (vec![0; sizes.work], vec![0; sizes.certificate]);
         let length = pensummer::write_certificate(self.inputs(), &mut work, &mut certificate).expect("the plant is accepted");
-        certificate.truncate(length);
+        assert_eq!(length, certificate.len());
         (certificate, work)
     }
 
     /// The weight of a heaviest mapping.
     pub fn weight(&self) -> i32 {
-        pensummer::match_trees(self.inputs(), &mut vec![0; WORK_MOST], &mut [0; VERTICES_MOST]).expect("the plant is accepted")
+        pensummer::match_trees(self.inputs(), &mut vec![0; self.sizes().work], &mut [0; VERTICES_MOST]).expect("the plant is accepted")
+    }
+
+    fn sizes(&self) -> Sizes {
+        pensummer::sizes(self.inputs()).expect("the plant is accepted")
     }
 
     /// The item by which the library refuses a certificate; 0 if it accepts.

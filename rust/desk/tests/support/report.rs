@@ -1,13 +1,14 @@
 //! The documented shape of what `--json` prints: every key always there, with a value of its kind.
 use super::json::{line, Value};
 
-const REPORT: [&str; 7] = ["command", "status", "refusal", "weight", "recorded", "found", "certificate"];
+const REPORT: [&str; 8] = ["command", "status", "refusal", "weight", "recorded", "found", "certificate", "sizes"];
 const REFUSAL: [&str; 4] = ["item", "sentence", "place", "reason"];
 const PLACE: [&str; 4] = ["file", "line", "column", "byte"];
 const VERTEX: [&str; 11] =
     ["vertex", "name", "label", "label_name", "state", "partner", "certain", "otherwise", "weight", "edge", "same_name"];
 const EDGE: [&str; 5] = ["to", "label", "partner_label", "weight", "certain"];
 const CERTIFICATE: [&str; 4] = ["length", "accepted", "mapping", "subproblems"];
+const SIZES: [&str; 4] = ["subproblems", "work", "mapping", "certificate"];
 const SUBPROBLEM: [&str; 7] = ["recorded", "found", "without", "byte", "value", "recorded_duals", "found_duals"];
 
 /// What a line of JSON says, after its shape was tested.
@@ -26,6 +27,9 @@ pub fn report(text: &str) -> Value {
     }
     if *report.at("certificate") != Value::Null {
         certificate(report.at("certificate"));
+    }
+    if *report.at("sizes") != Value::Null {
+        assert_eq!(report.at("sizes").keys(), SIZES);
     }
     report
 }

@@ -1,0 +1,3 @@
+-- How much to lend.
+pub mod Sums
+pub mod Answers

@@ -1,0 +1,162 @@
+//! How much to lend: the three numbers against a count, and what they are good for. Every call is lent exactly so much, and one less; the counts
+//! of jobs in slices are added up; every refusal comes up alone and together with every other.
+
+use pensummer::Job;
+use pensummer_tests::certificate;
+use pensummer_tests::compare::{self, every_call, Lending};
+use pensummer_tests::plants::{self, small_shapes, Weights};
+use pensummer_tests::random::Random;
+use pensummer_tests::reading::{table_bytes, tree_bytes, Inputs};
+
+/// Runs a job in slices over exactly the work numbers wanted. Its counts must add up to the subproblems; a finish must be refused by 17 before
+/// that and not after, and a further advance must count nothing. Gives back the record and the work numbers at the end.
+fn in_slices(inputs: &Inputs, random: &mut Random) -> (Job, Vec<i32>) {
+    let sizes = compare::sizes(inputs).expect("an accepted plant");
+    let mapping = inputs.recorded[2] as usize;
+    let (mut job, mut counted) = (Job::fresh(), 0);
+    let mut work: Vec<i32> = (0..sizes.work).map(|_| random.number()).collect();
+    compare::start(&mut job, inputs, &work, random).expect("a start");
+    let slice = 1 + random.below(sizes.work);
+    while counted < sizes.subproblems {
+        assert_eq!(compare::finish(&job, inputs, &work, mapping, random), Err(17), "{counted} of {sizes:?}{inputs:?}");
+        let budget = random.below(2 * slice) as u32;
+        counted += compare::advance(&mut job, inputs, budget, &mut work, random).expect("an advance");
+    }
+    assert_eq!(counted, sizes.subproblems, "{inputs:?}");
+    compare::finish(&job, inputs, &work, mapping, random).expect("a finish");
+    assert_eq!(compare::advance(&mut job, inputs, u32::MAX, &mut work, random), Ok(0), "{inputs:?}");
+    (job, work)
+}
+
+/// Lends every call exactly what is wanted, and then one work number or one byte less.
+fn exactly_and_one_less(inputs: &Inputs, random: &mut Random) {
+    let sizes = compare::sizes(inputs).expect("an accepted plant");
+    let (job, work) = in_slices(inputs, random);
+    let certificate = compare::write(inputs, sizes.work, sizes.certificate, random).expect("a written certificate");
+    assert_eq!(certificate.len(), sizes.certificate, "{inputs:?}");
+    let exact =
+        Lending { job, work, budget: 1, mapping_room: inputs.recorded[2] as usize, certificate_room: sizes.certificate, certificate };
+    // match, start, advance, finish, write, check, sizes
+    assert_eq!(every_call(inputs, &exact, random), [0; 7], "{inputs:?}");
+    let fewer = |lending: &Lending| Lending { work: lending.work[..sizes.work - 1].to_vec(), ..lending.clone() };
+    assert_eq!(every_call(inputs, &fewer(&exact), random), [13, 13, 13, 13, 13, 0, 0], "{inputs:?}");
+    let mut shorter = Lending { certificate_room: sizes.certificate - 1, ..exact };
+    shorter.certificate.pop();
+    assert_eq!(every_call(inputs, &shorter, random), [0, 0, 0, 0, 19, 20, 0], "{inputs:?}");
+    assert_eq!(every_call(inputs, &fewer(&shorter), random), [13, 13, 13, 13, 13, 20, 0], "{inputs:?}");
+    let longer = [&shorter.certificate[..], &[0, 0]].concat();
+    assert_eq!(compare::check(inputs, &longer), 20, "{inputs:?}");
+}
+
+#[test]
+fn small_plants() {
+    let mut random = Random::of_test("sizes of small plants");
+    let shapes = small_shapes();
+    for _ in 0..3_000 {
+        exactly_and_one_less(&plants::small_plant(&shapes, &mut random), &mut random);
+    }
+}
+
+#[test]
+fn plants_of_middle_size() {
+    let mut random = Random::of_test("sizes of plants of middle size");
+    for _ in 0..300 {
+        let (n, m) = (1 + random.below(24), 1 + random.below(24));
+        let (recorded, found) = (plants::middle_shape(n, &mut random), plants::middle_shape(m, &mut random));
+        exactly_and_one_less(&plants::plant(&recorded, &found, &mut random), &mut random);
+    }
+}
+
+#[test]
+fn every_count_of_vertices() {
+    let mut random = Random::of_test("sizes of every count of vertices");
+    for n in 1..=64 {
+        for m in 1..=64 {
+            let (recorded, found) = (plants::middle_shape(n, &mut random), plants::middle_shape(m, &mut random));
+            let sizes = compare::sizes(&plants::plant(&recorded, &found, &mut random)).expect("an accepted plant");
+            assert_eq!(sizes.work, n * (3 * m - 2));
+        }
+    }
+}
+
+#[test]
+fn largest_plants() {
+    let mut random = Random::of_test("sizes of the largest plants");
+    let shapes = plants::large_shapes(&mut random);
+    let mut longest = 0;
+    for (_, recorded) in &shapes {
+        for (name, found) in &shapes {
+            let inputs = plants::plant(recorded, found, &mut random);
+            let sizes = compare::sizes(&inputs).expect("an accepted plant");
+            assert_eq!((sizes.subproblems, sizes.work), (12_160, 12_160));
+            assert_eq!(sizes.certificate == certificate::LONGEST, name.contains("hubs"), "{name}: {sizes:?}");
+            longest = longest.max(sizes.certificate);
+        }
+    }
+    assert_eq!(longest, 278_736);
+    for (_, shape) in shapes.iter().filter(|(name, _)| name.contains("hubs") || name.contains("path")) {
+        exactly_and_one_less(&plants::plant(shape, shape, &mut random), &mut random);
+    }
+}
+
+/// A plant with these faults, by their numbers: a part with several has the bytes of each in another place.
+fn faulty(items: &[u32]) -> Inputs {
+    let has = |item: u32| items.contains(&item);
+    let mut table = table_bytes(&[vec![5, -2], vec![-2, 3]], &[vec![1]]);
+    if has(1) {
+        table[5] = 0x50;
+    }
+    if has(2) {
+        table[6..10].copy_from_slice(&1_000_001i32.to_le_bytes());
+    }
+    let tree = |first: u32| {
+        // a path of three, and then a centre with leaves: each fault has edges of its own
+        let leaves = if has(first + 4) { 9 } else { 8 };
+        let mut edges: Vec<(usize, usize, usize)> = vec![(0, 1, 0), (1, 2, 0), (2, 3, 0)];
+        edges.extend((0..leaves - 1).map(|leaf| (3, 4 + leaf, 0)));
+        let n = edges.len() + 1;
+        if has(first + 3) {
+            edges[0] = (2, 1, 0);
+        }
+        if has(first + 2) {
+            edges[1] = (1, n, 0);
+        }
+        let mut labels = vec![0; n];
+        if has(first + 1) {
+            labels[0] = 2;
+        }
+        let mut bytes = tree_bytes(&labels, &edges);
+        if has(first) {
+            bytes[1] = 7;
+        }
+        bytes
+    };
+    Inputs { table, recorded: tree(3), found: tree(8) }
+}
+
+#[test]
+fn refusals_alone_and_together() {
+    assert!(compare::sizes(&faulty(&[])).is_ok());
+    for first in 1..=12 {
+        assert_eq!(compare::sizes(&faulty(&[first])), Err(first), "alone");
+        for second in first + 1..=12 {
+            assert_eq!(compare::sizes(&faulty(&[first, second])), Err(first), "with {second}");
+        }
+        // and all that come later
+        assert_eq!(compare::sizes(&faulty(&(first..=12).collect::<Vec<u32>>())), Err(first));
+    }
+}
+
+#[test]
+fn the_table_decides_nothing_but_its_items() {
+    let mut random = Random::of_test("sizes under any table");
+    for _ in 0..500 {
+        let (n, m) = (1 + random.below(30), 1 + random.below(30));
+        let (recorded, found) = (plants::middle_shape(n, &mut random), plants::middle_shape(m, &mut random));
+        let (recorded, found) = (plants::tree(&recorded, 1, 1, &mut random), plants::tree(&found, 1, 1, &mut random));
+        let under = |table: Vec<u8>| compare::sizes(&Inputs { table, recorded: recorded.clone(), found: found.clone() });
+        let forbidden = under(plants::table(1, 1, Weights::Forbidden, Weights::Forbidden, &mut random));
+        assert_eq!(forbidden, under(plants::table(32, 8, Weights::Wide, Weights::Wide, &mut random)));
+        assert!(forbidden.is_ok());
+    }
+}
