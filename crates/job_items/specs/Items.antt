@@ -224,7 +224,7 @@ module _ (table r f : List ℕ) (work : List ℤ) where
       unfolding finishItem advanceItem
       finish-advance h = first-here (advanceItems j table r f work) (item 17 (isLeft j r f) ∷ mappingItem r mapping ∷ []) h
 
-      finish-then : advanceItem j table r f work ≡ 0 → finishItem j table r f work mapping ≡ cond (isLeft j r f) 17 (cond (ltb (length mapping) (count r)) 18 0)
+      pub finish-then : advanceItem j table r f work ≡ 0 → finishItem j table r f work mapping ≡ cond (isLeft j r f) 17 (cond (ltb (length mapping) (count r)) 18 0)
       unfolding finishItem advanceItem firstOf
       finish-then e = first-then (item 17 (isLeft j r f) ∷ mappingItem r mapping ∷ []) advance-numbered e
 

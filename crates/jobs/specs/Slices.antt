@@ -1,17 +1,16 @@
 -- A job in slices over undisturbed memory: after any advances the work numbers begin with the values as far as the position, every advance is
 -- accepted and counts the smaller of its budget and what is left, and at the end the mapping is a heaviest one. Assumes nothing.
 use mathlib.Core.Path.{_≡_, refl, sym, ap, _∙_, subst}
-use mathlib.Core.Logic.{_≢_, ⊎-elim}
-use mathlib.Core.Bool.{true, false}
+use mathlib.Core.Bool.{true, false, cond}
 use mathlib.Core.List.{List, [], _∷_, _++_}
 use Prim.Native.Nat.{ℕ, _+_, _*_, _-_, _≤_, _<_, min}
 use native.Mathlib.Omega.{arith}
 use native.Mathlib.Nat.{add-zero}
 use lib.ListN.{length, getD, take, drop, take-append-drop, length-take, length-drop, length-append}
 use lib.Seq.{take-at, take-take, drop-at, drop-drop, getD-take, take-all}
+use lib.Dec.{ltb}
 use lib.IntN.{ℤ, pos}
-use borrow.Author.Tests.{le-leb, lt-ltb, le-ltb, eq-eqb}
-use Rattle.foundations.specs.Tests.{less?}
+use borrow.Author.Tests.{le-leb, le-ltb, eq-eqb}
 use Rattle.model.specs.Limits.{vertexLimit}
 use Rattle.model.specs.declared.JobRecord.{JobRecord}
 use Rattle.model.specs.declared.AdvanceAnswer.the-variants.{Advanced}
@@ -23,7 +22,7 @@ use Rattle.model.specs.Jobs.{totalLimit, recordOk, sameTrees, isLeft, workOk, a
 use Rattle.formats.specs.Inputs.{Accepted, input-accepted}
 use Rattle.subtrees.specs.Filling.{values-long}
 use Rattle.subtrees.specs.Theorems.{fill-prefix}
-use Rattle.job_items.specs.Items.{start-none, earlyItem, early-none, advance-none, finish-left, finish-mapping, finish-none}
+use Rattle.job_items.specs.Items.{start-none, earlyItem, early-none, advance-none, finish-then, finish-none}
 use Rattle.jobs.specs.Fits.{values-pass}
 use Rattle.jobs.specs.Outcomes.{advance-accepted, advance-fills}
 
@@ -168,17 +167,10 @@ module _ (table r f : List ℕ) (passes : inputItem table r f ≡ 0) (total₀ :
     unfolding isLeft
     running-finish e mapping l = finish-none table r f work j mapping early-ok work-ok (rw (R .here, e) (le-ltb N N (omega arith))) l
 
-    -- before that it is refused by 17, whatever mapping is lent, and then it is not
-    pub running-left : p < N → (mapping : List ℕ) → finishItem j table r f work mapping ≡ 17
+    -- before that it is refused by 17, and then by nothing but 18
+    pub running-ends : (mapping : List ℕ) → finishItem j table r f work mapping ≡ cond (ltb p N) 17 (cond (ltb (length mapping) (count r)) 18 0)
     unfolding isLeft
-    running-left h mapping = finish-left table r f work j mapping early-ok work-ok (rw (R .here) (lt-ltb p N h))
-
-    pub running-done : p ≡ N → (mapping : List ℕ) → finishItem j table r f work mapping ≢ 17
-    unfolding isLeft
-    running-done e mapping h = ⊎-elim
-        (λ short. let k : finishItem j table r f work mapping ≡ 18 = finish-mapping table r f work j mapping early-ok work-ok (rw (R .here, e) (le-ltb N N (omega arith))) short in omega arith)
-        (λ long. let k = running-finish e mapping long in omega arith)
-        (less? (length mapping) (count r))
+    running-ends mapping = finish-then table r f work j mapping running-item ∙ rw (R .here)
 
     pub running-values : p ≡ N → take N work ≡ Vs
     running-values e = ap (λ (k : ℕ). take k work) (sym e) ∙ R .front ∙ ap (λ (k : ℕ). take k Vs) e ∙ take-all N Vs (let l = values-long table r f A in omega arith)

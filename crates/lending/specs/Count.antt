@@ -1,23 +1,25 @@
 -- `lend-count`: over a job in any slices the counts that its advances give back add up to the count of subproblems; before that something is left, and then
 -- nothing. `lend-calls` says the same of the exported calls. Assumes nothing.
 use mathlib.Core.Path.{_≡_, sym, ap, _∙_}
-use mathlib.Core.Logic.{_≢_, ⊎-elim}
+use mathlib.Core.Bool.{cond}
 use mathlib.Core.List.{List}
-use Prim.Native.Nat.{ℕ, _+_, _-_, _≤_, _<_, min}
+use Prim.Native.Nat.{ℕ, _+_, _-_, _≤_, min}
 use native.Mathlib.Omega.{arith}
 use lib.ListN.{length, take}
+use lib.Dec.{ltb}
 use lib.IntN.{ℤ}
-use Rattle.foundations.specs.Tests.{less?}
 use Rattle.model.specs.declared.JobRecord.{JobRecord}
+use Rattle.model.specs.declared.AdvanceAnswer.the-variants.{Advanced}
+use Rattle.model.specs.Tree.{count}
 use Rattle.model.specs.Order.{subproblems}
 use Rattle.model.specs.Jobs.{startItem, finishItem, advanceOf, advanceCount}
 use Rattle.model.specs.Sizes.{SizesNumbers}
 use Rattle.job_items.specs.Items.{start-none, start-passed}
-use Rattle.jobs.specs.Slices.{Sliced, begins, goes, Running, running-lent, running-left, running-done}
+use Rattle.jobs.specs.Slices.{Sliced, begins, goes, Running, running-lent, running-ends}
 use Rattle.jobs.specs.Theorems.{sliced-running, lent-slice}
 use Rattle.answer_numbers.specs.declared.job_numbers.JobMemory.{JobMemory}
 use Rattle.answer_numbers.specs.Memory.{recordOf}
-use Rattle.call_numbers.specs.Exported.{Finishes}
+use Rattle.call_numbers.specs.Exported.{Advances, Finishes}
 use Rattle.call_numbers.specs.SlicedCalls.{CallsMade, started, advanced, as-job, each-call}
 use Rattle.sizes.specs.Answers.{sizes-told}
 
@@ -31,16 +33,9 @@ unfoldable pub solvedIn : {table r f : List ℕ} {sum : ℕ} {x : JobMemory} {le
 solvedIn (started s) = 0
 solvedIn (advanced {solved = k} m same a) = solvedIn m + k
 
--- Of a job of N subproblems that has counted `reached`, and a finish that is refused by this number, 0 if by none: before the end something is left, and
--- 17 says so; at the end nothing is; and only at the end 17 does not apply.
-pub record Counts (N reached refusal : ℕ) : Type 0 where
-  pub within : reached ≤ N
-  pub before : reached < N → refusal ≡ 17
-  pub after : reached ≡ N → refusal ≢ 17
-  pub ended : refusal ≢ 17 → reached ≡ N
-
-counts-of : (N reached refusal : ℕ) → reached ≤ N → (reached < N → refusal ≡ 17) → (reached ≡ N → refusal ≢ 17) → Counts N reached refusal
-counts-of N reached refusal l b a = record { within = l; before = b; after = a; ended = λ n. ⊎-elim (λ h. absurd (n (b h))) (λ h. omega arith) (less? reached N) }
+-- the number of a finish of a job that has counted so much of s subproblems: 17 as long as something is left, and then nothing but 18
+abbrev pub finishNumber : ℕ → ℕ → List ℕ → List ℕ → ℕ
+finishNumber s done r mapping = cond (ltb done s) 17 (cond (ltb (length mapping) (count r)) 18 0)
 
 module _ {table r f : List ℕ} {work : List ℤ} (passes : startItem table r f work ≡ 0) {j₀ : JobRecord} where
   counted-is : {sum : ℕ} {j : JobRecord} {left : List ℤ} (m : Sliced table r f j₀ work sum j left) → counted m ≡ min sum (subproblems r f)
@@ -51,14 +46,11 @@ module _ {table r f : List ℕ} {work : List ℤ} (passes : startItem table r f 
       let i = counted-is m in
       omega arith
 
-  -- of a job that has been advanced this far, and any mapping
-  ends : {sum : ℕ} {j : JobRecord} {left : List ℤ} → Sliced table r f j₀ work sum j left → (lent : List ℤ) → take (subproblems r f) lent ≡ take (subproblems r f) left → (mapping : List ℕ) → Counts (subproblems r f) (min sum (subproblems r f)) (finishItem j table r f lent mapping)
+  ends : {sum : ℕ} {j : JobRecord} {left : List ℤ} → Sliced table r f j₀ work sum j left → (lent : List ℤ) → take (subproblems r f) lent ≡ take (subproblems r f) left → (mapping : List ℕ) → finishItem j table r f lent mapping ≡ finishNumber (subproblems r f) (min sum (subproblems r f)) r mapping
   ends {sum} {j} {left} m lent same mapping =
       let given = start-passed table r f work passes .0 in
       let R : Running table r f (j₀ .total) (min sum (subproblems r f)) j lent = running-lent table r f given (j₀ .total) (sliced-running table r f work passes j₀ m) lent same in
-      counts-of (subproblems r f) (min sum (subproblems r f)) (finishItem j table r f lent mapping) (omega arith)
-      (λ l. running-left table r f given (j₀ .total) R l mapping)
-      (λ e. running-done table r f given (j₀ .total) R e mapping)
+      running-ends table r f given (j₀ .total) R mapping
 
 solved-is : {table r f : List ℕ} {sum : ℕ} {x : JobMemory} {left : List ℤ} (m : CallsMade table r f sum x left) → solvedIn m ≡ min sum (subproblems r f)
 unfolding solvedIn
@@ -68,36 +60,45 @@ solved-is (advanced {lent = lent} m same a) =
     let e = each-call m lent same a .1 in
     omega arith
 
-module _ {table r f : List ℕ} {refusal s w c : ℕ} (told : SizesNumbers table r f refusal s w c) (given : refusal ≡ 0) where
-  -- A job that is started with that many work numbers, and has been advanced with budgets that come to `sum`. Its counts add up to the count of
-  -- subproblems and no further. As long as they do not, a finish is refused by 17, and then it is not. A further advance counts the smaller of its
-  -- budget and what they leave of it. Budgets that come to it are enough.
-  pub lend-count : {work : List ℤ} → w ≤ length work → {j₀ : JobRecord} {sum : ℕ} {j : JobRecord} {left : List ℤ} (m : Sliced table r f j₀ work sum j left)
-      → (lent : List ℤ) → take (subproblems r f) lent ≡ take (subproblems r f) left → (mapping : List ℕ) →
-      Counts s (counted m) (finishItem j table r f lent mapping)
-      × ((b : ℕ) → advanceCount (advanceOf j table r f b lent .answer) ≡ min b (s - counted m))
-      × (s ≤ sum → counted m ≡ s)
-  unfolding advanceCount
-  lend-count {work} l {j₀} {sum} {j} {left} m lent same mapping =
-      let t = sizes-told told given in
-      let N : s ≡ subproblems r f = t .count in
-      let W : w ≡ subproblems r f = t .work in
-      let passes = start-none table r f work (t .passes) (omega arith) in
-      let i = counted-is passes m in
-      let E = ends passes m lent same mapping in (
-        counts-of s (counted m) (finishItem j table r f lent mapping) (omega arith) (λ h. E .before (omega arith)) (λ e. E .after (omega arith)),
-        λ b. let k = ap advanceCount (lent-slice table r f work passes j₀ m lent same b .1) in omega arith,
-        λ h. omega arith,
-      )
+-- Of a job m that was started and advanced with budgets that come to `sum`: its counts add up to `sum`, but to no more than s. Lent what it left, a further
+-- advance is carried out and counts the smaller of its budget and what they leave of s, and a finish is refused by 17 exactly as long as they leave
+-- something.
+pub record CountLent {table r f : List ℕ} {j₀ : JobRecord} {work : List ℤ} {sum : ℕ} {j : JobRecord} {left : List ℤ} (s : ℕ) (m : Sliced table r f j₀ work sum j left) : Type 0 where
+  pub sums : counted m ≡ min sum s
+  pub advances : (lent : List ℤ) → take (subproblems r f) lent ≡ take (subproblems r f) left → (b : ℕ) → advanceOf j table r f b lent .answer ≡ Advanced (min b (s - counted m))
+  pub finishes : (lent : List ℤ) → take (subproblems r f) lent ≡ take (subproblems r f) left → (mapping : List ℕ) → finishItem j table r f lent mapping ≡ finishNumber s (counted m) r mapping
 
-  -- the same through the exported calls, which begin with a start that is not refused
-  pub lend-calls : {sum : ℕ} {x : JobMemory} {left : List ℤ} (m : CallsMade table r f sum x left) → (lent : List ℤ) → take (subproblems r f) lent ≡ take (subproblems r f) left →
-      {mapping mapping′ : List ℕ} {k : ℕ} {v : ℤ} → Finishes (recordOf x) table r f lent mapping mapping′ k v →
-      Counts s (solvedIn m) k × (s ≤ sum → solvedIn m ≡ s)
-  lend-calls {sum} {x} {left} m lent same {mapping} {mapping′} {k} a =
-      let N : s ≡ subproblems r f = sizes-told told given .count in
-      let i = solved-is m in
-      let J = as-job m in
-      let E = ends (J .passes) (J .chain) lent same mapping in
-      let e = a .number in
-      (counts-of s (solvedIn m) k (omega arith) (λ h. e ∙ E .before (omega arith)) (λ h z. E .after (omega arith) (sym e ∙ z)), λ h. omega arith)
+-- the same of calls through the C interface
+pub record CallsLent {table r f : List ℕ} {sum : ℕ} {x : JobMemory} {left : List ℤ} (s : ℕ) (m : CallsMade table r f sum x left) : Type 0 where
+  pub sums : solvedIn m ≡ min sum s
+  pub advances : {lent : List ℤ} {b : ℕ} {x′ : JobMemory} {work′ : List ℤ} {k n : ℕ} → take (subproblems r f) lent ≡ take (subproblems r f) left → Advances x table r f b lent x′ work′ k n → (k ≡ 0) × (n ≡ min b (s - solvedIn m))
+  pub finishes : {lent : List ℤ} {mapping mapping′ : List ℕ} {k : ℕ} {v : ℤ} → take (subproblems r f) lent ≡ take (subproblems r f) left → Finishes (recordOf x) table r f lent mapping mapping′ k v → k ≡ finishNumber s (solvedIn m) r mapping
+
+-- it is enough that the start was lent the work numbers wanted
+pub lend-count : {table r f : List ℕ} {refusal s w c : ℕ} → SizesNumbers table r f refusal s w c → refusal ≡ 0 → {work : List ℤ} → w ≤ length work
+    → {j₀ : JobRecord} {sum : ℕ} {j : JobRecord} {left : List ℤ} (m : Sliced table r f j₀ work sum j left) → CountLent s m
+lend-count {table} {r} {f} {refusal} {s} {w} {c} told given {work} l {j₀} {sum} {j} {left} m =
+    let t = sizes-told told given in
+    let N : s ≡ subproblems r f = t .count in
+    let W : w ≡ subproblems r f = t .work in
+    let passes = start-none table r f work (t .passes) (omega arith) in
+    let i = counted-is passes m in
+    let is : counted m ≡ min sum s = omega arith in
+    record {
+      sums = is;
+      advances = λ lent same b.
+          let k : min b (subproblems r f - min sum (subproblems r f)) ≡ min b (s - counted m) = omega arith in
+          lent-slice table r f work passes j₀ m lent same b .1 ∙ ap Advanced k;
+      finishes = λ lent same mapping. ends passes m lent same mapping ∙ rw (N, i);
+    }
+
+pub lend-calls : {table r f : List ℕ} {refusal s w c : ℕ} → SizesNumbers table r f refusal s w c → refusal ≡ 0 → {sum : ℕ} {x : JobMemory} {left : List ℤ} (m : CallsMade table r f sum x left) → CallsLent s m
+lend-calls {table} {r} {f} {refusal} {s} {w} {c} told given {sum} {x} {left} m =
+    let N : s ≡ subproblems r f = sizes-told told given .count in
+    let i = solved-is m in
+    let J = as-job m in
+    record {
+      sums = omega arith;
+      advances = λ {lent} same a. let e = each-call m lent same a in (e .0, let n = e .1 in omega arith);
+      finishes = λ {lent} {mapping} same a. a .number ∙ ends (J .passes) (J .chain) lent same mapping ∙ rw (N, i);
+    }

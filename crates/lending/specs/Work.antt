@@ -1,4 +1,4 @@
--- `lend-work`: the work numbers wanted are exactly what item 13 asks for, in each call that tests it. Assumes nothing.
+-- `lend-work`: the work numbers wanted are exactly what item 13 asks for, in each call that tests it (`exported-too`: in C as well). Assumes nothing.
 use mathlib.Core.Path.{_≡_, sym, _∙_, subst}
 use mathlib.Core.Logic.{_≢_}
 use mathlib.Core.Bool.{Bool, true, false, not}
@@ -12,14 +12,20 @@ use Rattle.model.specs.Refusals.{Item, item, firstOf}
 use Rattle.model.specs.Order.{subproblems}
 use Rattle.model.specs.Calls.{inputItem, inputItems, workItem, mappingItem, matchItem}
 use Rattle.model.specs.Jobs.{recordOk, sameTrees, workOk, isLeft, startItems, startItem, advanceItem, finishItem}
+use Rattle.model.specs.Values.{values}
 use Rattle.model.specs.Writing.{roomItem, writeItem}
 use Rattle.model.specs.Sizes.{SizesNumbers}
 use Rattle.trees.specs.Items.{first-here, first-then}
+use Rattle.formats.specs.Inputs.{input-accepted}
+use Rattle.subtrees.specs.Filling.{values-long}
 use Rattle.job_items.specs.Items.{start-work, start-none, start-numbered}
+use Rattle.answer_numbers.specs.declared.job_numbers.JobMemory.{JobMemory}
+use Rattle.answer_numbers.specs.Memory.{recordOf}
+use Rattle.call_numbers.specs.Exported.{Matches, Starts, Advances, Finishes, Writes}
 use Rattle.sizes.specs.Answers.{sizes-told}
 
--- What holds of the number that each call answers that tests 13, lent these work numbers, whatever else it is lent. The contract of each, in Rattle and
--- in C, says that its number is this item.
+-- What holds of the number that each call answers that tests 13, lent these work numbers, whatever else it is lent. The contract of each says that its
+-- number is this item.
 pub record EachNumber (P : ℕ → Type 0) (table r f : List ℕ) (work : List ℤ) : Type 0 where
   pub start : P (startItem table r f work)
   pub advance : (j : JobRecord) → P (advanceItem j table r f work)
@@ -68,10 +74,36 @@ module _ (table r f : List ℕ) (work : List ℤ) where
       let s = start-work table r f work e l in
       each (λ k. k ≡ 13) (λ rest o. first-here (startItems table r f work) rest (λ z. let n : _≡_ {A = ℕ} 13 0 = sym s ∙ z in omega arith) ∙ s)
 
--- with that many work numbers 13 applies to none of these calls, and with fewer to each
-pub lend-work : {table r f : List ℕ} {refusal s w c : ℕ} → SizesNumbers table r f refusal s w c → refusal ≡ 0 → (work : List ℤ) →
-    (w ≤ length work → EachNumber (λ k. k ≢ 13) table r f work) × (length work < w → EachNumber (λ k. k ≡ 13) table r f work)
-lend-work {table} {r} {f} n z work =
+-- what holds of the number that each exported call gives that tests 13
+pub record EachCall (P : ℕ → Type 0) (table r f : List ℕ) (work : List ℤ) : Type 0 where
+  pub start : {x x′ : JobMemory} {k : ℕ} → Starts x table r f work x′ k → P k
+  pub advance : {x x′ : JobMemory} {b : ℕ} {work′ : List ℤ} {k n : ℕ} → Advances x table r f b work x′ work′ k n → P k
+  pub finish : {j : JobRecord} {mapping mapping′ : List ℕ} {k : ℕ} {v : ℤ} → Finishes j table r f work mapping mapping′ k v → P k
+  pub one-call : {mapping : List ℕ} {work′ : List ℤ} {mapping′ : List ℕ} {k : ℕ} {v : ℤ} → Matches table r f work mapping work′ mapping′ k v → P k
+  pub writing : {certificate : List ℕ} {work′ : List ℤ} {certificate′ : List ℕ} {k l : ℕ} → Writes table r f work certificate work′ certificate′ k l → P k
+
+pub exported-too : {P : ℕ → Type 0} {table r f : List ℕ} {work : List ℤ} → EachNumber P table r f work → EachCall P table r f work
+exported-too {P} E = record {
+  start = λ a. subst P (sym (a .number)) (E .start);
+  advance = λ {x} a. subst P (sym (a .number)) (E .advance (recordOf x));
+  finish = λ {j} {mapping} a. subst P (sym (a .number)) (E .finish j mapping);
+  one-call = λ {mapping} a. subst P (sym (a .number)) (E .one-call mapping);
+  writing = λ {certificate} a. subst P (sym (a .number)) (E .writing certificate);
+}
+
+-- The work numbers wanted are as many as there are values, which a match, a writing and a job at its end leave in them. With that many 13 applies to none
+-- of the calls, and with fewer to each.
+pub record WorkLent (table r f : List ℕ) (w : ℕ) : Type 0 where
+  pub filled : length (values table r f) ≡ w
+  pub enough : (work : List ℤ) → w ≤ length work → EachNumber (λ k. k ≢ 13) table r f work
+  pub short : (work : List ℤ) → length work < w → EachNumber (λ k. k ≡ 13) table r f work
+
+pub lend-work : {table r f : List ℕ} {refusal s w c : ℕ} → SizesNumbers table r f refusal s w c → refusal ≡ 0 → WorkLent table r f w
+lend-work {table} {r} {f} {refusal} {s} {w} n z =
     let t = sizes-told n z in
-    let e = t .work in
-    (λ l. enough table r f work (t .passes) (omega arith), λ l. short table r f work (t .passes) (omega arith))
+    let e : w ≡ subproblems r f = t .work in
+    record {
+      filled = values-long table r f (input-accepted table r f (t .passes)) ∙ sym e;
+      enough = λ work l. enough table r f work (t .passes) (omega arith);
+      short = λ work l. short table r f work (t .passes) (omega arith);
+    }

@@ -1,4 +1,5 @@
--- How much to lend: the numbers that a controller asks for before it sets memory aside. Paper 02, [1].
+-- How much to lend: the numbers that a controller asks for before it sets memory aside. Paper 02, [1]. That nothing is solved no definition says: the
+-- code depends on no crate that solves (crates.txt).
 use mathlib.Core.Path.{_≡_}
 use mathlib.Core.Bool.{cond}
 use mathlib.Core.List.{List}
