@@ -149,13 +149,16 @@ struct pensummer_sizes_result {
 
 /* ---- calls */
 
-/* How much to lend for these trees, so that memory can be set aside first. Tests 1 to 12. Solves nothing, and is lent
- * nothing but what it reads.
+/* How much to lend for this table and these trees, so that memory can be set aside first. Tests 1 to 12. Solves
+ * nothing, and is lent nothing but what it reads. Where it is not refused, of the other calls on the same table and
+ * trees:
  *
- * With `work` work numbers or more no call is refused by 13, and with fewer each is that tests it. The counts of a
- * job's advances add up to `subproblems` when nothing is left to solve, and to less before. With a buffer of
- * `certificate` bytes or more no writing is refused by 19, and with fewer each is that is not refused before; that is
- * the length that a writing gives back, and a certificate of any other is refused by 20. A mapping takes n bytes. */
+ * - with `work` work numbers or more none is refused by 13, and with fewer each is that tests it;
+ * - the counts of a job's advances, over memory that nothing but the job's own calls has changed since the start, add
+ *   up to `subproblems` when nothing is left to solve, and to less before;
+ * - with a buffer of `certificate` bytes or more no writing is refused by 19, and with fewer each is that is not refused
+ *   by 13; a writing that is carried out gives back this length, and a certificate of any other is refused by 20;
+ * - a mapping takes n bytes. */
 struct pensummer_sizes_result pensummer_sizes(const uint8_t *table, size_t table_len,
                                               const uint8_t *recorded, size_t recorded_len,
                                               const uint8_t *found, size_t found_len);

@@ -5,3 +5,4 @@ pub mod SmallPlants
 pub mod FurtherPlants
 pub mod ValueCases
 pub mod CertificateCases
+pub mod SizesCases

@@ -61,14 +61,14 @@ pub struct Inputs<'a> {
     pub found: &'a [u8],
 }
 
-/// How much to lend for two trees: see [`sizes`].
+/// How much to lend for a table and two trees: see [`sizes`].
 #[derive(Clone, Copy, Debug, PartialEq, Eq)]
 pub struct Sizes {
-    /// What the counts of a job's advances add up to when nothing is left to solve.
+    /// What the counts of an undisturbed job's advances add up to when nothing is left to solve.
     pub subproblems: u32,
     /// The work numbers wanted: with so many no call is refused by item 13, with fewer each is that tests it.
     pub work: usize,
-    /// The length of a certificate in bytes: what a writing wants and gives back, and a check takes.
+    /// The length of a certificate in bytes: what a writing wants and gives back, and the only one that a check takes.
     pub certificate: usize,
 }
 
@@ -96,8 +96,8 @@ macro_rules! lend {
     };
 }
 
-/// How much to lend for these trees, so that memory can be set aside first. Tests the items 1 to 12. Solves nothing. A
-/// mapping takes n bytes.
+/// How much to lend for this table and these trees, so that memory can be set aside first. Tests the items 1 to 12.
+/// Solves nothing. A mapping takes n bytes.
 pub fn sizes(i: Inputs) -> Result<Sizes, Refusal> {
     let r = lend!(pensummer_sizes, [], i, []);
     result(r.refusal, Sizes { subproblems: r.subproblems, work: r.work as usize, certificate: r.certificate as usize })

@@ -1,0 +1,60 @@
+-- How much to lend for small plants, counted by hand: the subproblems, the work numbers wanted, a certificate's length; and two that are refused.
+-- Assumes nothing.
+use mathlib.Core.Path.{_≡_, refl}
+use mathlib.Core.List.{List, [], _∷_}
+use Prim.Native.Nat.{ℕ}
+use lib.ListN.{length}
+use Rattle.foundations.specs.Lists.{every, below, cat}
+use Rattle.model.specs.declared.SizesAnswer.{SizesAnswer}
+use Rattle.model.specs.declared.SizesAnswer.the-variants.{Sizes, Refused}
+use Rattle.model.specs.Bytes.{signed32, bits32}
+use Rattle.model.specs.Calls.{inputItem}
+use Rattle.model.specs.Certificate.{squares, certificateLength}
+use Rattle.model.specs.Edges.{component}
+use Rattle.model.specs.Graph.{joins, joinedBy, neighbours}
+use Rattle.model.specs.Order.{width, subproblems}
+use Rattle.model.specs.Refusals.{firstOf}
+use Rattle.model.specs.Sizes.{sizesOf}
+use Rattle.model.specs.Table.{tableSized, tableMarked, rowOk, weightsOk}
+use Rattle.model.specs.Tree.{sized, marked, labelsKnown, endsLow, closes, acyclic, degree, fewEdges}
+use Rattle.model.specs.Weights.{isForbidden, inRange, weightOk}
+use Rattle.cases.specs.Plants.{wordBytes, weights, rows, tableOf, vertexBytes, edge, edgesOf, treeOf, path, star, three, tableP, table7, certificate1}
+
+-- table, recorded, found, and the answer
+pub data Lending : Type 0 where
+  lending : List ℕ → List ℕ → List ℕ → SizesAnswer → Lending
+
+abbrev pub Answers : Lending → Type 0
+Answers (lending table recorded found a) = sizesOf table recorded found ≡ a
+
+infixr 40 _and_
+pub data AllAnswer : List Lending → Type 0 where
+  end : AllAnswer []
+  _and_ : {x : Lending} {l : List Lending} → Answers x → AllAnswer l → AllAnswer (x ∷ l)
+
+abbrev pub lendings : List Lending
+lendings =
+    -- one vertex each: 8 + 3 bytes, and a record of 6
+    lending tableP (path (0 ∷ [])) (path (0 ∷ [])) (Sizes 1 1 17)
+    -- one and two: records of 10, 6, 10 and 6; two and one: 8 + 6 bytes, and records of 6 and 10
+    ∷ lending tableP (path (0 ∷ [])) (path (0 ∷ 0 ∷ [])) (Sizes 4 4 43)
+    ∷ lending tableP (path (0 ∷ 0 ∷ [])) (path (0 ∷ [])) (Sizes 2 2 30)
+    -- small plants 3 and 5, and 5 exchanged
+    ∷ lending tableP (path (0 ∷ 1 ∷ [])) (path (1 ∷ 0 ∷ [])) (Sizes 8 8 94)
+    ∷ lending tableP (star (0 ∷ 0 ∷ 0 ∷ 0 ∷ [])) (path (0 ∷ 0 ∷ 0 ∷ 0 ∷ [])) (Sizes 40 40 540)
+    ∷ lending tableP (path (0 ∷ 0 ∷ 0 ∷ 0 ∷ [])) (star (0 ∷ 0 ∷ 0 ∷ 0 ∷ [])) (Sizes 40 40 572)
+    -- forbidden pairs take the same
+    ∷ lending table7 (path (0 ∷ 1 ∷ [])) (path (1 ∷ 0 ∷ [])) (Sizes 8 8 94)
+    -- a loop, and no table at all
+    ∷ lending tableP (three 0 1 1 0) (path (0 ∷ [])) (Refused 6)
+    ∷ lending [] (three 0 1 1 0) [] (Refused 1)
+    ∷ []
+
+pub sizes-cases : AllAnswer lendings
+unfolding wordBytes weights rows tableOf vertexBytes edge edgesOf treeOf path star three tableP table7 inputItem firstOf tableSized tableMarked weightsOk rowOk weightOk isForbidden inRange sized marked labelsKnown endsLow closes acyclic degree fewEdges component joins joinedBy neighbours signed32 bits32 every below cat squares certificateLength width subproblems sizesOf
+sizes-cases = refl and refl and refl and refl and refl and refl and refl and refl and refl and end
+
+-- the paper's certificate of small plant 9 is as long as that
+sheet-long : length (certificate1 5 0 5) ≡ 17
+unfolding certificate1
+sheet-long = refl
