@@ -7,8 +7,10 @@ use pensummer_tests::plants::{self, large_shapes, Shape, Weights, WEIGHTS};
 use pensummer_tests::random::Random;
 use pensummer_tests::reading::Inputs;
 
-/// The work numbers that every plant of 64 by 64 vertices wants.
-const VALUES: usize = 12_160;
+/// The work numbers that this plant wants.
+fn wanted(inputs: &Inputs) -> usize {
+    compare::sizes(inputs).expect("an accepted plant").work
+}
 
 /// A plant of two large shapes with these kinds of weights.
 fn large(recorded: &Shape, found: &Shape, vertex: Weights, edge: Weights, random: &mut Random) -> Inputs {
@@ -71,7 +73,7 @@ fn every_pair_of_shapes() {
             let vertex = *random.pick(&[Weights::Wide, Weights::SmallForbidden, Weights::Small, Weights::Positive, Weights::Extremes]);
             let edge = *random.pick(&[Weights::Wide, Weights::SmallForbidden, Weights::Small, Weights::Positive]);
             let inputs = large(recorded, found, vertex, edge, &mut random);
-            compare::match_trees(&inputs, VALUES + 1, 65, &mut random).expect("a match");
+            compare::match_trees(&inputs, wanted(&inputs) + 1, 65, &mut random).expect("a match");
             tried += 1;
         }
     }
@@ -87,7 +89,7 @@ fn every_kind_of_weights() {
     for weights in WEIGHTS {
         for (name, shape) in &shapes {
             let inputs = large(shape, shape, weights, weights, &mut random);
-            compare::match_trees(&inputs, VALUES, 64, &mut random).expect("a match");
+            compare::match_trees(&inputs, wanted(&inputs), 64, &mut random).expect("a match");
             tried += 1;
             let weight = Solved::read(&inputs).unwrap().weight;
             match weights {
@@ -102,7 +104,8 @@ fn every_kind_of_weights() {
     }
     for (vertex, edge) in [(Weights::Most, Weights::Forbidden), (Weights::Forbidden, Weights::Most), (Weights::Most, Weights::Least)] {
         for (_, shape) in &shapes {
-            compare::match_trees(&large(shape, shape, vertex, edge, &mut random), VALUES, 64, &mut random).expect("a match");
+            let inputs = large(shape, shape, vertex, edge, &mut random);
+            compare::match_trees(&inputs, wanted(&inputs), 64, &mut random).expect("a match");
             tried += 1;
         }
     }
@@ -120,13 +123,13 @@ fn jobs_in_slices() {
         let inputs = large(shape, found, Weights::Wide, Weights::SmallForbidden, &mut random);
         let solved = Solved::read(&inputs).expect("an accepted plant");
         let mut job = Job::fresh();
-        let mut work: Vec<i32> = (0..VALUES).map(|_| random.number()).collect();
+        let mut work: Vec<i32> = (0..wanted(&inputs)).map(|_| random.number()).collect();
         compare::start(&mut job, &inputs, &work, &mut random).expect("a start");
-        while (job.position as usize) < VALUES {
+        while (job.position as usize) < work.len() {
             let budget = random.below(1_500) as u32;
             compare::advance(&mut job, &inputs, budget, &mut work, &mut random).expect("an advance");
         }
-        assert_eq!(job, Job { idle: 0, n: 64, m: 64, position: VALUES as u32, total: VALUES as u32 });
+        assert_eq!(job, Job { idle: 0, n: 64, m: 64, position: 12_160, total: 12_160 });
         assert_eq!(work, solved.values);
         assert_eq!(compare::finish(&job, &inputs, &work, 64, &mut random), Ok(solved.weight));
         // the same end with every allowed number at its most: the mapping is legal and its weight exact
@@ -135,7 +138,7 @@ fn jobs_in_slices() {
         }
         compare::finish(&job, &inputs, &work, 64, &mut random).expect("a finish");
         // and an advance over them stores no more than the most
-        let mut half = Job { position: VALUES as u32 / 2, ..job };
+        let mut half = Job { position: job.position / 2, ..job };
         compare::advance(&mut half, &inputs, u32::MAX, &mut work, &mut random).expect("an advance");
         tried += 1;
     }
@@ -154,11 +157,11 @@ fn certificates() {
             let inputs = large(recorded, found, vertex, edge, &mut random);
             let sizes = compare::sizes(&inputs).expect("an accepted plant");
             let length = sizes.certificate;
-            assert_eq!((sizes.subproblems as usize, sizes.work), (VALUES, VALUES), "{name}");
+            assert_eq!((sizes.subproblems, sizes.work), (12_160, 12_160), "{name}");
             assert!(length <= certificate::LONGEST);
             assert_eq!(length == certificate::LONGEST, name.contains("hubs"), "{name}: {length} bytes");
-            assert_eq!(compare::write(&inputs, VALUES, length - 1, &mut random), Err(19));
-            let mut bytes = compare::write(&inputs, VALUES + 1, length + 2, &mut random).expect("a written certificate");
+            assert_eq!(compare::write(&inputs, sizes.work, length - 1, &mut random), Err(19));
+            let mut bytes = compare::write(&inputs, sizes.work + 1, length + 2, &mut random).expect("a written certificate");
             assert_eq!(bytes.len(), length);
             for _ in 0..4 {
                 let at = random.below(length);
