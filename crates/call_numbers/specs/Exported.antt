@@ -1,6 +1,7 @@
 -- What the exported calls that solve promise, as equations on the numbers that a C program is given and on what is left in the memory that it lent. In
 -- each the first number is the first item that applies, 0 for none; where one applies the other number, if there is one, is 0 and nothing has changed.
--- The promises of `pensummer_fresh` and `pensummer_check` are one equation each, which stands there (crates/pensummer).
+-- The promises of `pensummer_fresh` and `pensummer_check` are one equation each, which stands there (crates/pensummer); that of `pensummer_sizes` is
+-- `SizesNumbers` of its four numbers (crates/model, `Sizes`).
 use mathlib.Core.Path.{_≡_}
 use mathlib.Core.Logic.{_≢_}
 use mathlib.Core.Bool.{cond}

@@ -1,4 +1,4 @@
--- How much to lend for small plants, counted by hand: the subproblems, the work numbers wanted, a certificate's length; and two that are refused.
+-- How much to lend for small plants, counted by hand: the subproblems, the work numbers wanted, a certificate's length; and four that are refused.
 -- Assumes nothing.
 use mathlib.Core.Path.{_≡_, refl}
 use mathlib.Core.List.{List, [], _∷_}
@@ -43,16 +43,18 @@ lendings =
     ∷ lending tableP (path (0 ∷ 1 ∷ [])) (path (1 ∷ 0 ∷ [])) (Sizes 8 8 94)
     ∷ lending tableP (star (0 ∷ 0 ∷ 0 ∷ 0 ∷ [])) (path (0 ∷ 0 ∷ 0 ∷ 0 ∷ [])) (Sizes 40 40 540)
     ∷ lending tableP (path (0 ∷ 0 ∷ 0 ∷ 0 ∷ [])) (star (0 ∷ 0 ∷ 0 ∷ 0 ∷ [])) (Sizes 40 40 572)
-    -- forbidden pairs take the same
+    -- forbidden edge pairs take the same
     ∷ lending table7 (path (0 ∷ 1 ∷ [])) (path (1 ∷ 0 ∷ [])) (Sizes 8 8 94)
-    -- a loop, and no table at all
+    -- a loop in the recorded tree, in the found one, in both; no table at all
     ∷ lending tableP (three 0 1 1 0) (path (0 ∷ [])) (Refused 6)
+    ∷ lending tableP (path (0 ∷ [])) (three 0 1 1 0) (Refused 11)
+    ∷ lending tableP (three 0 1 1 0) (three 0 1 1 0) (Refused 6)
     ∷ lending [] (three 0 1 1 0) [] (Refused 1)
     ∷ []
 
 pub sizes-cases : AllAnswer lendings
 unfolding wordBytes weights rows tableOf vertexBytes edge edgesOf treeOf path star three tableP table7 inputItem firstOf tableSized tableMarked weightsOk rowOk weightOk isForbidden inRange sized marked labelsKnown endsLow closes acyclic degree fewEdges component joins joinedBy neighbours signed32 bits32 every below cat squares certificateLength width subproblems sizesOf
-sizes-cases = refl and refl and refl and refl and refl and refl and refl and refl and refl and end
+sizes-cases = refl and refl and refl and refl and refl and refl and refl and refl and refl and refl and refl and end
 
 -- the paper's certificate of small plant 9 is as long as that
 sheet-long : length (certificate1 5 0 5) ≡ 17

@@ -91,10 +91,11 @@ exported-too {P} E = record {
   writing = λ {certificate} a. subst P (sym (a .number)) (E .writing certificate);
 }
 
--- The work numbers wanted are as many as there are values, which a match, a writing and a job at its end leave in them. With that many 13 applies to none
--- of the calls, and with fewer to each.
+-- The work numbers wanted are as many as there are values, which a match, a writing and a job at its end leave in them, one for each subproblem (`sub-at`
+-- and `index-once` of crates/trees). With that many 13 applies to none of the calls, so that a start is carried out, and with fewer to each.
 pub record WorkLent (table r f : List ℕ) (w : ℕ) : Type 0 where
   pub filled : length (values table r f) ≡ w
+  pub starts : (work : List ℤ) → w ≤ length work → startItem table r f work ≡ 0
   pub enough : (work : List ℤ) → w ≤ length work → EachNumber (λ k. k ≢ 13) table r f work
   pub short : (work : List ℤ) → length work < w → EachNumber (λ k. k ≡ 13) table r f work
 
@@ -104,6 +105,7 @@ lend-work {table} {r} {f} {refusal} {s} {w} n z =
     let e : w ≡ subproblems r f = t .work in
     record {
       filled = values-long table r f (input-accepted table r f (t .passes)) ∙ sym e;
+      starts = λ work l. start-none table r f work (t .passes) (omega arith);
       enough = λ work l. enough table r f work (t .passes) (omega arith);
       short = λ work l. short table r f work (t .passes) (omega arith);
     }
