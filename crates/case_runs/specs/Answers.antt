@@ -14,13 +14,14 @@ use Rattle.model.specs.Order.{subproblems}
 use Rattle.model.specs.Tree.{count}
 use Rattle.job_items.specs.Items.{start-input, start-none}
 use Rattle.one_call.specs.Items.{match-start, match-none}
-use Rattle.cases.specs.Expected.{Expected, weighs, refused, checked, Row, plant, Holds}
+use Rattle.cases.specs.Expected.{Expected, weighs, refused, checked, told, Row, plant, Holds}
 
--- the weight, or the item's number; a certificate is not the match's matter
+-- the weight, or the item's number; a certificate and how much to lend are not the match's matter
 abbrev pub Answers : Expected → MatchAnswer → Type 0
 Answers (weighs w p) a = a ≡ Found w
 Answers (refused k) a = k ≢ 0 → a ≡ Refused k
 Answers (checked z k) a = Unit {0}
+Answers (told b) a = Unit {0}
 
 -- every match of the row's plant with enough work numbers and a mapping buffer that is long enough
 abbrev pub Answered : Row → Type 0
@@ -36,3 +37,4 @@ row-answered (plant k table r f (refused i)) h = λ work mapping work′ mapping
     let e : matchItem table r f work mapping ≡ i = match-start table r f work mapping (λ z. n (sym s ∙ z)) ∙ s in
     call .refused (λ z. n (sym e ∙ z)) .given ∙ ap Refused e
 row-answered (plant k table r f (checked z i)) h = λ work mapping work′ mapping′ a enough room call. tt
+row-answered (plant k table r f (told b)) h = λ work mapping work′ mapping′ a enough room call. tt

@@ -5,18 +5,21 @@ use mathlib.Core.Bool.{true}
 use mathlib.Core.List.{List, [], _∷_}
 use Prim.Native.Nat.{ℕ}
 use lib.IntN.{ℤ}
+use Rattle.model.specs.declared.SizesAnswer.{SizesAnswer}
 use Rattle.model.specs.Calls.{inputItem}
 use Rattle.model.specs.Certificate.{checkOf}
 use Rattle.model.specs.Mapping.{Heaviest, weight, mappingOk}
+use Rattle.model.specs.Sizes.{sizesOf}
 use Rattle.model.specs.Values.{answer}
 use Rattle.subtrees.specs.Theorems.{heaviest-exactly, quick-mapping}
 
 -- a weight with a heaviest mapping, as n bytes; or the number of the item that turns the plant down; or a certificate and the number of the
--- item that its check gives, 0 where it is accepted
+-- item that its check gives, 0 where it is accepted; or how much to lend
 pub data Expected : Type 0 where
   weighs : ℤ → List ℕ → Expected
   refused : ℕ → Expected
   checked : List ℕ → ℕ → Expected
+  told : SizesAnswer → Expected
 
 pub data Row : Type 0 where
   plant : ℕ → List ℕ → List ℕ → List ℕ → Expected → Row
@@ -32,6 +35,7 @@ abbrev pub Holds : Row → Type 0
 Holds (plant k table recorded found (weighs w p)) = Weighs table recorded found w p
 Holds (plant k table recorded found (refused item)) = inputItem table recorded found ≡ item
 Holds (plant k table recorded found (checked certificate item)) = checkOf table recorded found certificate ≡ item
+Holds (plant k table recorded found (told a)) = sizesOf table recorded found ≡ a
 
 -- every row of a table holds
 infixr 40 _then_

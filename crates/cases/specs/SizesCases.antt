@@ -2,10 +2,8 @@
 -- Assumes nothing.
 use mathlib.Core.Path.{_≡_, refl}
 use mathlib.Core.List.{List, [], _∷_}
-use Prim.Native.Nat.{ℕ}
 use lib.ListN.{length}
 use Rattle.foundations.specs.Lists.{every, below, cat}
-use Rattle.model.specs.declared.SizesAnswer.{SizesAnswer}
 use Rattle.model.specs.declared.SizesAnswer.the-variants.{Sizes, Refused}
 use Rattle.model.specs.Bytes.{signed32, bits32}
 use Rattle.model.specs.Calls.{inputItem}
@@ -18,43 +16,44 @@ use Rattle.model.specs.Sizes.{sizesOf}
 use Rattle.model.specs.Table.{tableSized, tableMarked, rowOk, weightsOk}
 use Rattle.model.specs.Tree.{sized, marked, labelsKnown, endsLow, closes, acyclic, degree, fewEdges}
 use Rattle.model.specs.Weights.{isForbidden, inRange, weightOk}
+use Rattle.cases.specs.Expected.{told, Row, plant, All, end, _then_}
 use Rattle.cases.specs.Plants.{wordBytes, weights, rows, tableOf, vertexBytes, edge, edgesOf, treeOf, path, star, three, tableP, table7, certificate1}
 
--- table, recorded, found, and the answer
-pub data Lending : Type 0 where
-  lending : List ℕ → List ℕ → List ℕ → SizesAnswer → Lending
-
-abbrev pub Answers : Lending → Type 0
-Answers (lending table recorded found a) = sizesOf table recorded found ≡ a
-
-infixr 40 _and_
-pub data AllAnswer : List Lending → Type 0 where
-  end : AllAnswer []
-  _and_ : {x : Lending} {l : List Lending} → Answers x → AllAnswer l → AllAnswer (x ∷ l)
-
-abbrev pub lendings : List Lending
-lendings =
+abbrev pub sizesPlants : List Row
+sizesPlants =
     -- one vertex each: 8 + 3 bytes, and a record of 6
-    lending tableP (path (0 ∷ [])) (path (0 ∷ [])) (Sizes 1 1 17)
+    plant 1 tableP (path (0 ∷ [])) (path (0 ∷ [])) (told (Sizes 1 1 17))
     -- one and two: records of 10, 6, 10 and 6; two and one: 8 + 6 bytes, and records of 6 and 10
-    ∷ lending tableP (path (0 ∷ [])) (path (0 ∷ 0 ∷ [])) (Sizes 4 4 43)
-    ∷ lending tableP (path (0 ∷ 0 ∷ [])) (path (0 ∷ [])) (Sizes 2 2 30)
+    ∷ plant 2 tableP (path (0 ∷ [])) (path (0 ∷ 0 ∷ [])) (told (Sizes 4 4 43))
+    ∷ plant 3 tableP (path (0 ∷ 0 ∷ [])) (path (0 ∷ [])) (told (Sizes 2 2 30))
     -- small plants 3 and 5, and 5 exchanged
-    ∷ lending tableP (path (0 ∷ 1 ∷ [])) (path (1 ∷ 0 ∷ [])) (Sizes 8 8 94)
-    ∷ lending tableP (star (0 ∷ 0 ∷ 0 ∷ 0 ∷ [])) (path (0 ∷ 0 ∷ 0 ∷ 0 ∷ [])) (Sizes 40 40 540)
-    ∷ lending tableP (path (0 ∷ 0 ∷ 0 ∷ 0 ∷ [])) (star (0 ∷ 0 ∷ 0 ∷ 0 ∷ [])) (Sizes 40 40 572)
+    ∷ plant 4 tableP (path (0 ∷ 1 ∷ [])) (path (1 ∷ 0 ∷ [])) (told (Sizes 8 8 94))
+    ∷ plant 5 tableP (star (0 ∷ 0 ∷ 0 ∷ 0 ∷ [])) (path (0 ∷ 0 ∷ 0 ∷ 0 ∷ [])) (told (Sizes 40 40 540))
+    ∷ plant 6 tableP (path (0 ∷ 0 ∷ 0 ∷ 0 ∷ [])) (star (0 ∷ 0 ∷ 0 ∷ 0 ∷ [])) (told (Sizes 40 40 572))
     -- forbidden edge pairs take the same
-    ∷ lending table7 (path (0 ∷ 1 ∷ [])) (path (1 ∷ 0 ∷ [])) (Sizes 8 8 94)
+    ∷ plant 7 table7 (path (0 ∷ 1 ∷ [])) (path (1 ∷ 0 ∷ [])) (told (Sizes 8 8 94))
     -- a loop in the recorded tree, in the found one, in both; no table at all
-    ∷ lending tableP (three 0 1 1 0) (path (0 ∷ [])) (Refused 6)
-    ∷ lending tableP (path (0 ∷ [])) (three 0 1 1 0) (Refused 11)
-    ∷ lending tableP (three 0 1 1 0) (three 0 1 1 0) (Refused 6)
-    ∷ lending [] (three 0 1 1 0) [] (Refused 1)
+    ∷ plant 8 tableP (three 0 1 1 0) (path (0 ∷ [])) (told (Refused 6))
+    ∷ plant 9 tableP (path (0 ∷ [])) (three 0 1 1 0) (told (Refused 11))
+    ∷ plant 10 tableP (three 0 1 1 0) (three 0 1 1 0) (told (Refused 6))
+    ∷ plant 11 [] (three 0 1 1 0) [] (told (Refused 1))
     ∷ []
 
-pub sizes-cases : AllAnswer lendings
+pub sizes-cases : All sizesPlants
 unfolding wordBytes weights rows tableOf vertexBytes edge edgesOf treeOf path star three tableP table7 inputItem firstOf tableSized tableMarked weightsOk rowOk weightOk isForbidden inRange sized marked labelsKnown endsLow closes acyclic degree fewEdges component joins joinedBy neighbours signed32 bits32 every below cat squares certificateLength width subproblems sizesOf
-sizes-cases = refl and refl and refl and refl and refl and refl and refl and refl and refl and refl and refl and end
+sizes-cases =
+    refl
+    then refl
+    then refl
+    then refl
+    then refl
+    then refl
+    then refl
+    then refl
+    then refl
+    then refl
+    then refl
+    then end
 
 -- the paper's certificate of small plant 9 is as long as that
 sheet-long : length (certificate1 5 0 5) ≡ 17

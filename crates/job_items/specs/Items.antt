@@ -12,7 +12,7 @@ use borrow.Author.Tests.{lt-ltb, le-ltb, eqb-true, leb-true}
 use Rattle.foundations.specs.Tests.{same?, less?, and-split}
 use Rattle.model.specs.declared.JobRecord.{JobRecord}
 use Rattle.model.specs.Limits.{vertexLimit}
-use Rattle.model.specs.Refusals.{item, firstOf}
+use Rattle.model.specs.Refusals.{Item, item, firstOf}
 use Rattle.model.specs.Tree.{count}
 use Rattle.model.specs.Order.{width, subproblems}
 use Rattle.model.specs.Calls.{inputItems, inputItem, workItem, mappingItem}
@@ -107,22 +107,22 @@ module _ (table r f : List ℕ) (work : List ℤ) where
   pub start-numbered : Numbered (startItems table r f work)
   start-numbered = numbered-append (input-numbered table r f) (more {k = 13} (omega arith) end)
 
+  pub regroup : (i : Item) → inputItems table r f ++ (workItem r f work ∷ i ∷ []) ≡ startItems table r f work ++ (i ∷ [])
+  regroup i = sym (append-assoc (inputItems table r f) (workItem r f work ∷ []) (i ∷ []))
+
   -- ---- a call that tests 1 to 13 and one item more (the match in one call 18, writing a certificate 19), which applies where x is less than y
 
   module _ (k x y : ℕ) where
     abbrev lastItem : ℕ
     lastItem = firstOf (inputItems table r f ++ (workItem r f work ∷ item k (ltb x y) ∷ []))
 
-    regroup : inputItems table r f ++ (workItem r f work ∷ item k (ltb x y) ∷ []) ≡ startItems table r f work ++ (item k (ltb x y) ∷ [])
-    regroup = sym (append-assoc (inputItems table r f) (workItem r f work ∷ []) (item k (ltb x y) ∷ []))
-
     pub last-start : startItem table r f work ≢ 0 → lastItem ≡ startItem table r f work
     unfolding startItem
-    last-start h = ap firstOf regroup ∙ first-here (startItems table r f work) (item k (ltb x y) ∷ []) h
+    last-start h = ap firstOf (regroup (item k (ltb x y))) ∙ first-here (startItems table r f work) (item k (ltb x y) ∷ []) h
 
     last-late : startItem table r f work ≡ 0 → lastItem ≡ cond (ltb x y) k 0
     unfolding startItem firstOf
-    last-late e = ap firstOf regroup ∙ first-then (item k (ltb x y) ∷ []) start-numbered e
+    last-late e = ap firstOf (regroup (item k (ltb x y))) ∙ first-then (item k (ltb x y) ∷ []) start-numbered e
 
     pub last-yes : startItem table r f work ≡ 0 → x < y → lastItem ≡ k
     last-yes e h = last-late e ∙ rw (lt-ltb x y h)

@@ -23,6 +23,10 @@ use Rattle.call_numbers.specs.Exported.{Advances, Finishes}
 use Rattle.call_numbers.specs.SlicedCalls.{CallsMade, started, advanced, as-job, each-call}
 use Rattle.sizes.specs.Answers.{sizes-told}
 
+-- a list that begins with the n(3m - 2) numbers that the last call left
+abbrev pub Again : List ℕ → List ℕ → List ℤ → List ℤ → Type 0
+Again r f lent left = take (subproblems r f) lent ≡ take (subproblems r f) left
+
 -- the counts that the advances of a job give back, added up
 unfoldable pub counted : {table r f : List ℕ} {j₀ : JobRecord} {work₀ : List ℤ} {sum : ℕ} {j : JobRecord} {left : List ℤ} → Sliced table r f j₀ work₀ sum j left → ℕ
 counted begins = 0
@@ -46,7 +50,7 @@ module _ {table r f : List ℕ} {work : List ℤ} (passes : startItem table r f 
       let i = counted-is m in
       omega arith
 
-  ends : {sum : ℕ} {j : JobRecord} {left : List ℤ} → Sliced table r f j₀ work sum j left → (lent : List ℤ) → take (subproblems r f) lent ≡ take (subproblems r f) left → (mapping : List ℕ) → finishItem j table r f lent mapping ≡ finishNumber (subproblems r f) (min sum (subproblems r f)) r mapping
+  ends : {sum : ℕ} {j : JobRecord} {left : List ℤ} → Sliced table r f j₀ work sum j left → (lent : List ℤ) → Again r f lent left → (mapping : List ℕ) → finishItem j table r f lent mapping ≡ finishNumber (subproblems r f) (min sum (subproblems r f)) r mapping
   ends {sum} {j} {left} m lent same mapping =
       let given = start-passed table r f work passes .0 in
       let R : Running table r f (j₀ .total) (min sum (subproblems r f)) j lent = running-lent table r f given (j₀ .total) (sliced-running table r f work passes j₀ m) lent same in
@@ -65,14 +69,14 @@ solved-is (advanced {lent = lent} m same a) =
 -- something.
 pub record CountLent {table r f : List ℕ} {j₀ : JobRecord} {work : List ℤ} {sum : ℕ} {j : JobRecord} {left : List ℤ} (s : ℕ) (m : Sliced table r f j₀ work sum j left) : Type 0 where
   pub sums : counted m ≡ min sum s
-  pub advances : (lent : List ℤ) → take (subproblems r f) lent ≡ take (subproblems r f) left → (b : ℕ) → advanceOf j table r f b lent .answer ≡ Advanced (min b (s - counted m))
-  pub finishes : (lent : List ℤ) → take (subproblems r f) lent ≡ take (subproblems r f) left → (mapping : List ℕ) → finishItem j table r f lent mapping ≡ finishNumber s (counted m) r mapping
+  pub advances : (lent : List ℤ) → Again r f lent left → (b : ℕ) → advanceOf j table r f b lent .answer ≡ Advanced (min b (s - counted m))
+  pub finishes : (lent : List ℤ) → Again r f lent left → (mapping : List ℕ) → finishItem j table r f lent mapping ≡ finishNumber s (counted m) r mapping
 
 -- the same of calls through the C interface
 pub record CallsLent {table r f : List ℕ} {sum : ℕ} {x : JobMemory} {left : List ℤ} (s : ℕ) (m : CallsMade table r f sum x left) : Type 0 where
   pub sums : solvedIn m ≡ min sum s
-  pub advances : {lent : List ℤ} {b : ℕ} {x′ : JobMemory} {work′ : List ℤ} {k n : ℕ} → take (subproblems r f) lent ≡ take (subproblems r f) left → Advances x table r f b lent x′ work′ k n → (k ≡ 0) × (n ≡ min b (s - solvedIn m))
-  pub finishes : {lent : List ℤ} {mapping mapping′ : List ℕ} {k : ℕ} {v : ℤ} → take (subproblems r f) lent ≡ take (subproblems r f) left → Finishes (recordOf x) table r f lent mapping mapping′ k v → k ≡ finishNumber s (solvedIn m) r mapping
+  pub advances : {lent : List ℤ} {b : ℕ} {x′ : JobMemory} {work′ : List ℤ} {k n : ℕ} → Again r f lent left → Advances x table r f b lent x′ work′ k n → (k ≡ 0) × (n ≡ min b (s - solvedIn m))
+  pub finishes : {lent : List ℤ} {mapping mapping′ : List ℕ} {k : ℕ} {v : ℤ} → Again r f lent left → Finishes (recordOf x) table r f lent mapping mapping′ k v → k ≡ finishNumber s (solvedIn m) r mapping
 
 -- it is enough that the start was lent the work numbers wanted
 pub lend-count : {table r f : List ℕ} {refusal s w c : ℕ} → SizesNumbers table r f refusal s w c → refusal ≡ 0 → {work : List ℤ} → w ≤ length work

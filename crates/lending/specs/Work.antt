@@ -18,7 +18,7 @@ use Rattle.model.specs.Sizes.{SizesNumbers}
 use Rattle.trees.specs.Items.{first-here, first-then}
 use Rattle.formats.specs.Inputs.{input-accepted}
 use Rattle.subtrees.specs.Filling.{values-long}
-use Rattle.job_items.specs.Items.{start-work, start-none, start-numbered}
+use Rattle.job_items.specs.Items.{start-work, start-none, start-numbered, regroup}
 use Rattle.answer_numbers.specs.declared.job_numbers.JobMemory.{JobMemory}
 use Rattle.answer_numbers.specs.Memory.{recordOf}
 use Rattle.call_numbers.specs.Exported.{Matches, Starts, Advances, Finishes, Writes}
@@ -62,7 +62,7 @@ module _ (table r f : List ℕ) (work : List ℤ) where
       }
     where
       last : (i : Item) → Other (i ∷ []) → P (firstOf (inputItems table r f ++ (workItem r f work ∷ i ∷ [])))
-      last i o = subst (λ (l : List Item). P (firstOf l)) (append-assoc (inputItems table r f) (workItem r f work ∷ []) (i ∷ [])) (h (i ∷ []) o)
+      last i o = subst (λ (l : List Item). P (firstOf l)) (sym (regroup table r f work i)) (h (i ∷ []) o)
 
   enough : inputItem table r f ≡ 0 → subproblems r f ≤ length work → EachNumber (λ k. k ≢ 13) table r f work
   unfolding startItem

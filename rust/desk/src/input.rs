@@ -6,7 +6,7 @@ use crate::faults;
 use crate::files::{self, Trouble, INPUT_MOST};
 use crate::plant::{At, Fault, Place, Plant};
 use crate::text::{self, Text};
-use pensummer::Refusal;
+use pensummer::{Refusal, Sizes};
 use std::rc::Rc;
 
 /// A plant as it was given.
@@ -98,10 +98,15 @@ impl Input {
         Refused { refusal, fault }
     }
 
+    /// How much the library wants to be lent, if it accepts the table and both trees: this tests the items 1 to 12 and
+    /// nothing else.
+    pub fn sizes(&self) -> Result<Sizes, Refused> {
+        pensummer::sizes(self.bytes.inputs()).map_err(|refusal| self.refused(refusal))
+    }
+
     /// The plant, if the library accepts the table and both trees.
     pub fn accepted(&self) -> Result<&Plant, Refused> {
-        // the call that tests the items 1 to 12 and nothing else
-        pensummer::sizes(self.bytes.inputs()).map_err(|refusal| self.refused(refusal))?;
+        self.sizes()?;
         match &self.plant {
             Ok(plant) => Ok(plant),
             Err(_) => unreachable!("bytes of another shape are refused"),

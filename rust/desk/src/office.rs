@@ -15,10 +15,9 @@ type Done = Result<(), Failure>;
 /// Writes a certificate to the file that the call names.
 pub fn write(call: &Call, input: &Input) -> Done {
     let output = call.output.as_deref().unwrap_or("-");
-    let refused = |refusal| input.refused(refusal);
-    let sizes = pensummer::sizes(input.bytes.inputs()).map_err(refused)?;
+    let sizes = input.sizes()?;
     let (mut work, mut bytes) = (vec![0; sizes.work], vec![0; sizes.certificate]);
-    let length = pensummer::write_certificate(input.bytes.inputs(), &mut work, &mut bytes).map_err(refused)?;
+    let length = pensummer::write_certificate(input.bytes.inputs(), &mut work, &mut bytes).map_err(|refusal| input.refused(refusal))?;
     files::write(output, &bytes)?;
     let said = if call.json {
         let weight = certificate::read(input.accepted()?, &bytes).ok().map(|read| read.weight.into());

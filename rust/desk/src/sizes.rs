@@ -10,7 +10,7 @@ use std::mem::size_of;
 
 /// Says how much the calls of this plant are to be lent.
 pub fn sizes(call: &Call, input: &Input) -> Result<(), Failure> {
-    let sizes = pensummer::sizes(input.bytes.inputs()).map_err(|refusal| input.refused(refusal))?;
+    let sizes = input.sizes()?;
     // an accepted tree has the number of its vertices in its third byte
     let mapping = usize::from(input.bytes.recorded[2]);
     let text = if call.json {

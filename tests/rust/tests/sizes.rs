@@ -48,6 +48,12 @@ fn exactly_and_one_less(inputs: &Inputs, random: &mut Random) {
     assert_eq!(compare::check(inputs, &longer), 20, "{inputs:?}");
 }
 
+/// A plant of trees of n and m vertices.
+fn middle(n: usize, m: usize, random: &mut Random) -> Inputs {
+    let (recorded, found) = (plants::middle_shape(n, random), plants::middle_shape(m, random));
+    plants::plant(&recorded, &found, random)
+}
+
 #[test]
 fn small_plants() {
     let mut random = Random::of_test("sizes of small plants");
@@ -62,8 +68,7 @@ fn plants_of_middle_size() {
     let mut random = Random::of_test("sizes of plants of middle size");
     for _ in 0..300 {
         let (n, m) = (1 + random.below(24), 1 + random.below(24));
-        let (recorded, found) = (plants::middle_shape(n, &mut random), plants::middle_shape(m, &mut random));
-        exactly_and_one_less(&plants::plant(&recorded, &found, &mut random), &mut random);
+        exactly_and_one_less(&middle(n, m, &mut random), &mut random);
     }
 }
 
@@ -72,8 +77,7 @@ fn every_count_of_vertices() {
     let mut random = Random::of_test("sizes of every count of vertices");
     for n in 1..=64 {
         for m in 1..=64 {
-            let (recorded, found) = (plants::middle_shape(n, &mut random), plants::middle_shape(m, &mut random));
-            let sizes = compare::sizes(&plants::plant(&recorded, &found, &mut random)).expect("an accepted plant");
+            let sizes = compare::sizes(&middle(n, m, &mut random)).expect("an accepted plant");
             assert_eq!(sizes.work, n * (3 * m - 2));
         }
     }
