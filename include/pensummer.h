@@ -43,7 +43,7 @@ extern "C" {
 /* A table has no more edge labels (L). */
 #define PENSUMMER_EDGE_LABELS_MOST 8
 /* A weight is no greater, and no less than its negative, unless it is the forbidden number. */
-#define PENSUMMER_WEIGHT_MOST 1000000
+#define PENSUMMER_WEIGHT_MOST 16000000
 /* The forbidden number, -2,147,483,648: the weight of a pair that no mapping may have, and its subproblems' value. It
  * is INT32_MIN, in a form that every C and C++ takes, in an #if too. */
 #define PENSUMMER_FORBIDDEN (-2147483647 - 1)
@@ -186,7 +186,7 @@ uint32_t pensummer_start(struct pensummer_job *job,
 
 /* Solves the smaller of `budget` and what is left. Tests 1 to 16. Fills exactly that many work numbers, from the
  * position on, each with its subproblem's value by the numbers before it, as lent or as this call has filled them, and
- * at most 127,000,000; adds the count to the position and to the total, which stops at 4,294,967,295. */
+ * at most 2,032,000,000; adds the count to the position and to the total, which stops at 4,294,967,295. */
 struct pensummer_advance_result pensummer_advance(struct pensummer_job *job,
                                                   const uint8_t *table, size_t table_len,
                                                   const uint8_t *recorded, size_t recorded_len,

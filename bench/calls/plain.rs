@@ -3,6 +3,8 @@
 //! of a pair of vertices are built once for all choices of s. The matching is the textbook Hungarian method (row by row, potentials, slack array).
 
 pub const FORBIDDEN: i32 = i32::MIN;
+const WEIGHT_MOST: i32 = 16_000_000;
+const VALUE_MOST: i32 = 127 * WEIGHT_MOST;
 pub const NONE: u8 = 255;
 const FAR: i64 = i64::MAX / 4;
 
@@ -38,7 +40,7 @@ pub fn read_table(b: &[u8]) -> Result<Table, u32> {
     let (mut at, mut marks, mut ranges) = (4, true, true);
     let mut weight = |at: usize| {
         let w = weight_at(b, at);
-        ranges &= w == FORBIDDEN || (-1_000_000 <= w && w <= 1_000_000);
+        ranges &= w == FORBIDDEN || (-WEIGHT_MOST <= w && w <= WEIGHT_MOST);
         w
     };
     for i in 0..k {
@@ -476,7 +478,7 @@ fn resume(job: &Job, table: &[u8], recorded: &[u8], found: &[u8], work: &[i32]) 
                     break 'all;
                 }
                 let x = work[k];
-                if if allowed { x < -1_000_000 || x > 127_000_000 } else { x != FORBIDDEN } {
+                if if allowed { x < -WEIGHT_MOST || x > VALUE_MOST } else { x != FORBIDDEN } {
                     return Err(16);
                 }
                 k += 1;

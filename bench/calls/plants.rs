@@ -21,7 +21,7 @@ impl Random {
         if self.below(rare) == 0 {
             i32::MIN
         } else {
-            self.below(1_600_001) as i32 - 600_000
+            16 * (self.below(1_600_001) as i32 - 600_000)
         }
     }
 }

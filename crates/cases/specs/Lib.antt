@@ -1,4 +1,4 @@
--- Plants written as bytes, the table of small plants, and what else the definitions compute of such plants.
+-- Plants written as bytes, the table of small plants, what else the definitions compute of such plants, and the limits.
 pub mod Plants
 pub mod Expected
 pub mod SmallPlants
@@ -6,3 +6,4 @@ pub mod FurtherPlants
 pub mod ValueCases
 pub mod CertificateCases
 pub mod SizesCases
+pub mod LimitCases

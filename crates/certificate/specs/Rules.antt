@@ -22,7 +22,7 @@ pub atMost-says : (x : Weight) (a y : ℤ) → atMost x y ≡ true → x ≡ som
 unfolding atMost
 atMost-says x a y h e = leZ-yes (true→T (rw e at h))
 
--- what is at least -1,000,000 is recorded as itself
+-- what is at least the least weight is recorded as itself
 pub weighed-some : (z : ℤ) → negℤ (pos weightLimit) ≤ℤ z → weighed z ≡ some z
 unfolding weighed
 weighed-some z h = rw (not-forbidden z h)

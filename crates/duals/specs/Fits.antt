@@ -52,7 +52,7 @@ module _ (table r f : List ℕ) (passes : inputItem table r f ≡ 0) (work : Lis
   pub duals-value : (u v s : ℕ) (y z : List ℕ) → DualsAt table r f work u v s y z → Subproblem r f u v s → (w : ℤ) → vertexPair table r f u v ≡ some w → value table r f u v s ≡ some (w +ℤ pos (sum (length (children r u)) (λ i. getD y i 0) + sum (length (neighbours f v)) (λ j. getD z j 0)))
   duals-value u v s y z D q w e = work-value u v s q ∙ D .total w e
 
--- the value is at most 127,000,000 and the weight at least -1,000,000
+-- the value is at most the ceiling, and the weight at least the least weight
 pub dual-fits : (table r f : List ℕ) (work : List ℤ) (u v s : ℕ) (y z : List ℕ) → DualsAt table r f work u v s y z → Subproblem r f u v s → inputItem table r f ≡ 0 → take (subproblems r f) work ≡ values table r f →
     ((i : ℕ) → i < length (children r u) → getD y i 0 ≤ dualLimit) × ((j : ℕ) → j < length (neighbours f v) → getD z j 0 ≤ dualLimit)
 dual-fits table r f work u v s y z D q passes right = go (vertexPair table r f u v) refl

@@ -18,6 +18,7 @@ use Rattle.model.specs.Pairs.{vertexPair}
 use Rattle.model.specs.Values.{best, branch, valueFrom, recalled}
 use Rattle.model.specs.Certificate.{atMost}
 use Rattle.subtrees.specs.WeightLaws.{none≢some}
+use Rattle.integers.specs.Results.{gainMost}
 use Rattle.assignment.specs.Matching.{at, cell}
 use Rattle.assignment.specs.State.{Solved, Answer}
 use Rattle.plan.specs.Plan.{childCountIn, degreeIn, Ready, Pair}
@@ -32,7 +33,7 @@ use Rattle.duals.specs.Left.{DualsAt}
 -- a table of gains of u's children with v's neighbours; a forbidden pair's mean nothing
 pub record PairGains (table r f : List ℕ) (work : List ℤ) (u v : ℕ) (w : ℤ) (g : List ℕ) : Type 0 where
   pub long : length g ≡ pairLimit
-  pub small : (i j : ℕ) → i < length (children r u) → j < length (neighbours f v) → cell g i j ≤ 4294967294
+  pub small : (i j : ℕ) → i < length (children r u) → j < length (neighbours f v) → cell g i j ≤ gainMost
   pub filled : isForbidden w ≡ false → Filled (length (children r u)) (length (neighbours f v)) (gainAt table r f (recalled r f work) u v) g
 
 -- y and z are the duals of the answer for the gains g without the column that choice c leaves out

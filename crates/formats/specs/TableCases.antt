@@ -12,18 +12,18 @@ use Rattle.model.specs.Table.{tableSized, tableMarked, rowOk, weightsOk, tableI
 abbrev small : (head k l row : ℕ) → List ℕ → List ℕ
 small head k l row weight = 0xB1 ∷ head ∷ k ∷ l ∷ 0xB1 ∷ row ∷ (weight ++ (0xB1 ∷ 6 ∷ 0 ∷ 0 ∷ 0 ∷ 0 ∷ []))
 
--- 1,000,000; 1,000,001; their opposites; the forbidden number
+-- 16,000,000; 16,000,001; their opposites; the forbidden number
 abbrev most : List ℕ
-most = 0x40 ∷ 0x42 ∷ 0x0F ∷ 0x00 ∷ []
+most = 0x00 ∷ 0x24 ∷ 0xF4 ∷ 0x00 ∷ []
 
 abbrev more : List ℕ
-more = 0x41 ∷ 0x42 ∷ 0x0F ∷ 0x00 ∷ []
+more = 0x01 ∷ 0x24 ∷ 0xF4 ∷ 0x00 ∷ []
 
 abbrev least : List ℕ
-least = 0xC0 ∷ 0xBD ∷ 0xF0 ∷ 0xFF ∷ []
+least = 0x00 ∷ 0xDC ∷ 0x0B ∷ 0xFF ∷ []
 
 abbrev less : List ℕ
-less = 0xBF ∷ 0xBD ∷ 0xF0 ∷ 0xFF ∷ []
+less = 0xFF ∷ 0xDB ∷ 0x0B ∷ 0xFF ∷ []
 
 abbrev never : List ℕ
 never = 0x00 ∷ 0x00 ∷ 0x00 ∷ 0x80 ∷ []
@@ -46,7 +46,7 @@ unfolding tableItem firstOf tableSized
 labels = (refl, (refl, (refl, refl)))
 
 -- no bytes, one byte, one byte short, one too many
-lengths : Gets [] 1 × (Gets (0xB1 ∷ []) 1 × (Gets (small 4 1 1 5 (0x40 ∷ 0x42 ∷ 0x0F ∷ [])) 1 × Gets (small 4 1 1 5 (0x00 ∷ most)) 1))
+lengths : Gets [] 1 × (Gets (0xB1 ∷ []) 1 × (Gets (small 4 1 1 5 (0x00 ∷ 0x24 ∷ 0xF4 ∷ [])) 1 × Gets (small 4 1 1 5 (0x00 ∷ most)) 1))
 unfolding tableItem firstOf tableSized
 lengths = (refl, (refl, (refl, refl)))
 

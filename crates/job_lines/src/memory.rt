@@ -3,7 +3,7 @@ use integers::lesser;
 ghost use Prim.Native.Nat.{_≤_};
 
 // What fills fresh buffers: a number that is no value and that item 16 refuses, a byte that is no partner.
-const NUMBER: i32 = 2000000000;
+const NUMBER: i32 = model::Limits::CEILING + 1;
 
 const BYTE: u8 = 200;
 

@@ -41,13 +41,13 @@ pub record SumTo (k : ℕ) (z r : ℤ) : Type 0 where
   pub high : up r ≤ k * weightLimit
   pub low : dn r ≤ k * weightLimit
 
--- at most what a whole mapping can weigh
-pub record Modest (z : ℤ) : Type 0 where
-  pub high : up z ≤ ceiling
-  pub low : dn z ≤ ceiling
+-- together at most what a whole mapping can weigh, above 0 and below
+pub record SmallSum (s t : ℤ) : Type 0 where
+  pub high : up s + up t ≤ ceiling
+  pub low : dn s + dn t ≤ ceiling
 
-pub modest : {k : ℕ} {z r : ℤ} → k ≤ partLimit → SumTo k z r → Modest r
-modest h s = let a = s .high in let b = s .low in record { high = omega arith; low = omega arith }
+pub small-sum : {j k : ℕ} {x y s t : ℤ} → j + k ≤ partLimit → SumTo j x s → SumTo k y t → SmallSum s t
+small-sum h S R = let a = S .high in let b = S .low in let c = R .high in let d = R .low in record { high = omega arith; low = omega arith }
 
 pub sum-none : (F : ℕ → ℤ) → SumTo 0 (sumℤ 0 F) (pos 0)
 unfolding sumℤ

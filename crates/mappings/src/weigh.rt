@@ -16,12 +16,11 @@ ghost use lib.IntN.{_+ℤ_};
 ghost use Rattle.model.specs.Tree.{count, endA, endB};
 ghost use Rattle.model.specs.Mapping.{IsMapping, vertexPairs, edgeTerm, edgePairs, weight};
 ghost use Rattle.plan.specs.Plan.{Ready};
-ghost use Rattle.mappings.specs.WeighLaws.{Ground, SumTo, Modest, vertexTerm};
+ghost use Rattle.mappings.specs.WeighLaws.{Ground, SumTo, SmallSum, vertexTerm};
 
-// Two numbers that are far from the limits.
+// Two numbers that together are no more than a mapping can weigh: their sum fits.
 fn add(s: i32, t: i32) -> i32
-    requires { ⌜ Modest s ⌝ }
-    requires { ⌜ Modest t ⌝ }
+    requires { ⌜ SmallSum s t ⌝ }
     ensures { λ r. ⌜ r ≡ s +ℤ t ⌝ }
 {
     s + t

@@ -1,11 +1,11 @@
--- The numbers that paper 01 fixes for tables, trees and weights, each named once for the definitions, and what follows from them. The code has the
+-- The numbers that the papers fix for tables, trees and weights, each named once for the definitions, and what follows from them. The code has the
 -- same in src/lib.rt as far as it uses them (`weights` and `sizes` there). A job's total has its limit in `Jobs`.
 use Prim.Native.Nat.{ℕ, _+_, _*_, _-_, _/_, _%_}
 use lib.IntN.{ℤ, negsuc}
 
 -- a weight lies between -weightLimit and weightLimit, or is the forbidden number -2,147,483,648
 abbrev pub weightLimit : ℕ
-weightLimit = 1000000
+weightLimit = 16000000
 
 -- (`negsuc n` is -1 - n)
 abbrev pub forbiddenRank : ℕ
@@ -37,7 +37,7 @@ noVertex = 255
 abbrev pub partLimit : ℕ
 partLimit = 2 * vertexLimit - 1
 
--- no stored value is greater: each of these of the greatest weight, 127,000,000
+-- no stored value is greater: each of these of the greatest weight, 2,032,000,000
 abbrev pub ceiling : ℕ
 ceiling = partLimit * weightLimit
 
@@ -56,7 +56,7 @@ widthLimit = 3 * vertexLimit - 2
 abbrev pub subproblemLimit : ℕ
 subproblemLimit = vertexLimit * widthLimit
 
--- no gain is greater, and so no dual that is written: a stored value plus the weight of an edge, 128,000,000 (a check takes any dual from 0 to
+-- no gain is greater, and so no dual that is written: a stored value plus the weight of an edge, 2,048,000,000 (a check takes any dual from 0 to
 -- 2,147,483,647)
 abbrev pub dualLimit : ℕ
 dualLimit = ceiling + weightLimit

@@ -10,7 +10,7 @@ pub struct Limits {}
 
 impl Limits {
     // A weight lies between -WEIGHT and WEIGHT, or is FORBIDDEN.
-    pub const WEIGHT: i32 = 1000000;
+    pub const WEIGHT: i32 = 16000000;
 
     pub const FORBIDDEN: i32 = -2147483648;
     // No stored value is greater: a tree of VERTICES vertices, and as many edges less one, of the greatest weight.

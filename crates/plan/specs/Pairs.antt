@@ -28,7 +28,7 @@ use Rattle.trees.specs.Rooted.{child-of, up-edge}
 use Rattle.trees.specs.Positions.{index-low, position-low}
 use Rattle.formats.specs.Table.{TablePassed}
 use Rattle.formats.specs.Inputs.{Accepted}
-use Rattle.integers.specs.Results.{Gain}
+use Rattle.integers.specs.Results.{gainMost, Gain}
 use Rattle.plan.specs.Plan.{childCountIn, childEdgeIn, childPlaceIn, degreeIn, neighbourEdgeIn, behindIn, Ready, Pair}
 use Rattle.plan.specs.Numbers.{ready-accepted}
 
@@ -104,7 +104,7 @@ upW (some z) = up z
 -- what an edge weight and a value gain
 pub record GainIs (edge value : ℤ) (r : ℕ) : Type 0 where
   pub is : r ≡ upW (plusW (weighed edge) (weighed value))
-  pub small : r ≤ 4294967294
+  pub small : r ≤ gainMost
 
 pub gain-edge : (edge value : ℤ) → isForbidden edge ≡ true → GainIs edge value 0
 unfolding upW weighed
@@ -134,13 +134,13 @@ cell g i j = getD g (i * degreeLimit + j) 0
 -- the first n of row i are F's, the other rows are as before
 pub record RowFilled (n i : ℕ) (F : ℕ → ℕ) (g r : List ℕ) : Type 0 where
   pub long : length r ≡ pairLimit
-  pub here : (j : ℕ) → j < n → (cell r i j ≡ F j) × (cell r i j ≤ 4294967294)
+  pub here : (j : ℕ) → j < n → (cell r i j ≡ F j) × (cell r i j ≤ gainMost)
   pub other : (q j : ℕ) → q ≢ i → j < degreeLimit → cell r q j ≡ cell g q j
 
 pub row-none : (i : ℕ) (F : ℕ → ℕ) (g : List ℕ) → length g ≡ pairLimit → RowFilled 0 i F g g
 row-none i F g e = record { long = e; here = λ j h. absurd (not-suc-le-zero h); other = λ q j n h. refl }
 
-pub row-more : (j i v : ℕ) (F : ℕ → ℕ) (g r : List ℕ) → i < degreeLimit → j < degreeLimit → RowFilled j i F g r → v ≡ F j → v ≤ 4294967294 → RowFilled (j + 1) i F g (set r (i * degreeLimit + j) v)
+pub row-more : (j i v : ℕ) (F : ℕ → ℕ) (g r : List ℕ) → i < degreeLimit → j < degreeLimit → RowFilled j i F g r → v ≡ F j → v ≤ gainMost → RowFilled (j + 1) i F g (set r (i * degreeLimit + j) v)
 row-more j i v F g r hi hj R e b =
     let n : length r ≡ pairLimit = R .long in
     record {
@@ -155,7 +155,7 @@ row-more j i v F g r hi hj R e b =
 -- the first n rows are F's
 pub record Filled (n l : ℕ) (F : ℕ → ℕ → ℕ) (r : List ℕ) : Type 0 where
   pub long : length r ≡ pairLimit
-  pub get : (i j : ℕ) → i < n → j < l → (cell r i j ≡ F i j) × (cell r i j ≤ 4294967294)
+  pub get : (i j : ℕ) → i < n → j < l → (cell r i j ≡ F i j) × (cell r i j ≤ gainMost)
 
 pub filled-none : (l : ℕ) (F : ℕ → ℕ → ℕ) (r : List ℕ) → length r ≡ pairLimit → Filled 0 l F r
 filled-none l F r e = record { long = e; get = λ i j h. absurd (not-suc-le-zero h) }
@@ -164,7 +164,7 @@ pub filled-more : (n l : ℕ) (F : ℕ → ℕ → ℕ) (g r : List ℕ) → l �
 filled-more n l F g r hl D R = record {
   long = R .long;
   get = λ i j hi hj. ⊎-elim
-      (λ e. subst (λ (q : ℕ). (cell r q j ≡ F q j) × (cell r q j ≤ 4294967294)) (sym e) (R .here j hj))
+      (λ e. subst (λ (q : ℕ). (cell r q j ≡ F q j) × (cell r q j ≤ gainMost)) (sym e) (R .here j hj))
       (λ e. let o : cell r i j ≡ cell g i j = R .other i j e (omega arith) in let p = D .get i j (lower hi e) hj in (o ∙ p .0, omega (arith, p .1)))
       (same? i n);
 }

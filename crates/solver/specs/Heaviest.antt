@@ -17,6 +17,7 @@ use Rattle.foundations.specs.Members.{Distinct, del}
 use Rattle.model.specs.Limits.{degreeLimit, pairLimit}
 use Rattle.model.specs.Weights.{Weight, some}
 use Rattle.model.specs.Values.{best}
+use Rattle.integers.specs.Results.{gainMost}
 use Rattle.assignment.specs.Matching.{at, cell, gained, weight}
 use Rattle.assignment.specs.State.{Sized, Answer, Total, Cleared}
 use Rattle.plan.specs.Pairs.{upW}
@@ -56,7 +57,7 @@ pub record Table (k l c : ℕ) (g : ℕ → ℕ → ℕ) : Type 0 where
   pub rows : k ≤ degreeLimit
   pub columns : l ≤ degreeLimit
   pub choice : c ≤ l
-  pub small : (i j : ℕ) → i < k → j < l → g i j ≤ 4294967294
+  pub small : (i j : ℕ) → i < k → j < l → g i j ≤ gainMost
 
 -- r is the weight of a matching whose duals show that none is heavier
 pub record HeaviestMatching (k l c : ℕ) (g : ℕ → ℕ → ℕ) (r : ℕ) : Type 0 where
@@ -103,7 +104,7 @@ weight-most : (k l B : ℕ) (g : ℕ → ℕ → ℕ) (m : ℕ → ℕ) → ((i 
 unfolding weight gained
 weight-most k l B g m h = sum-most k B (gained l g m) (λ i hi. ⊎-elim (λ lt. rw (lt-ltb (m i) l lt) (h i (m i) hi lt)) (λ le. rw (le-ltb (m i) l le) (omega arith)) (less? (m i) l))
 
-pub out-small : {k l c : ℕ} {g : ℕ → ℕ → ℕ} → Table k l c g → (i j : ℕ) → i < k → j < l → outOf c g i j ≤ 4294967294
+pub out-small : {k l c : ℕ} {g : ℕ → ℕ → ℕ} → Table k l c g → (i j : ℕ) → i < k → j < l → outOf c g i j ≤ gainMost
 out-small {k} {l} {c} {g} T i j hi hj = ⊎-elim
     (λ e. rw (out-yes c g i j e) (omega arith))
     (λ n. rw (out-no c g i j n) (T .small i j hi hj))
@@ -126,7 +127,7 @@ module _ {k l c : ℕ} {g h : List ℕ} (O : LeftOut k c g h) (T : Table k l c (
       (less? (at m i) l)) in
       let e : r ≡ sum k (at y) + sum l (at z) = N .equal in
       let q : weight k l (cell h) (at m) ≡ sum k (at y) + sum l (at z) = D .equal in
-      let b : weight k l (outOf c (cell g)) (at m) ≤ k * 4294967294 = weight-most k l 4294967294 (outOf c (cell g)) (at m) (λ i j hi hj. out-small T i j hi hj) in
+      let b : weight k l (outOf c (cell g)) (at m) ≤ k * gainMost = weight-most k l gainMost (outOf c (cell g)) (at m) (λ i j hi hj. out-small T i j hi hj) in
       record {
         y = at y;
         z = at z;
@@ -271,7 +272,7 @@ module _ {k l c : ℕ} {g : ℕ → ℕ → ℕ} (T : Table k l c g) (N : Narrow
   }
 
   module _ (a b r : ℕ) (ha : a < k) (hb : b < l) (e : r ≡ tableMost k l F) (here : tableMost k l F ≡ outOf c g a b) where
-    under : r ≤ 4294967294
+    under : r ≤ gainMost
     under = let s = out-small T a b ha hb in omega (arith, e, here)
 
     -- one row: its dual is the gain

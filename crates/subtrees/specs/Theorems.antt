@@ -88,7 +88,7 @@ module _ (table recorded found : List ℕ) (passes : inputItem table recorded fo
   pub solved-answer : (given : ℕ → ℕ → ℕ → Weight) → Solves table recorded found given → largest recorded found given ≡ answer table recorded found
   solved-answer = solves-largest table recorded found tr tf
 
-  -- the forbidden number at a forbidden pair, between -1,000,000 and 127,000,000 at an allowed one
+  -- the forbidden number at a forbidden pair, between the least weight and the ceiling at an allowed one
   pub values-range : (k : ℕ) → k < subproblems recorded found → ((vertexPair table recorded found (uAt recorded found k) (vAt found k) ≡ none) × (getD (values table recorded found) k (pos 0) ≡ forbidden)) ⊎ ((vertexPair table recorded found (uAt recorded found k) (vAt found k) ≢ none) × (negℤ (pos weightLimit) ≤ℤ getD (values table recorded found) k (pos 0)) × (getD (values table recorded found) k (pos 0) ≤ℤ pos ceiling))
   values-range = values-in-range table recorded found A
 

@@ -1,4 +1,4 @@
--- The values lie between -1,000,000 and 127,000,000, or are forbidden with their pair. Assumes nothing.
+-- The values lie between the least weight and the ceiling, or are forbidden with their pair. Assumes nothing.
 use mathlib.Core.Path.{_≡_, refl, sym, ap, _∙_, subst}
 use mathlib.Core.Logic.{_↔_}
 use mathlib.Core.Bool.{Bool, true, false, _||_, _&&_, cond}
@@ -47,7 +47,7 @@ weighed-range z y h e = go (isForbidden z) refl e h
         let s = and-split (leZ (negℤ (pos weightLimit)) z) (leZ z (pos weightLimit)) h in
         subst (λ (y : ℤ). (negℤ (pos weightLimit) ≤ℤ y) × (y ≤ℤ pos weightLimit)) (some-inj z y e) (leZ-yes (true→T (s .0)), leZ-yes (true→T (s .1)))
 
--- what is at least -1,000,000 is not the forbidden number
+-- what is at least the least weight is not the forbidden number
 pub not-forbidden : (z : ℤ) → negℤ (pos weightLimit) ≤ℤ z → isForbidden z ≡ false
 unfolding isForbidden
 not-forbidden (pos n) h = refl

@@ -337,13 +337,13 @@ fn where_all_labels_are_in_use_it_is_not_known_whether_a_pair_is_certain() {
 }
 
 /// Of a path and one edge of it one end is left over, with a weight that cannot be raised.
-const AT_LIMIT: &str = "labels 3 1\nvertex-default forbidden\nvertex-pair 0 0 5\nvertex-pair 1 1 1000000\nedge 1\n";
+const AT_LIMIT: &str = "labels 3 1\nvertex-default forbidden\nvertex-pair 0 0 5\nvertex-pair 1 1 16000000\nedge 1\n";
 
 #[test]
 fn where_weights_are_at_their_limit_it_is_not_known_whether_a_vertex_is_certainly_gone() {
     let plant = format!("{AT_LIMIT}recorded 1 0 2 1\n0-1 1-2 2-3\nfound 1 0\n0-1\n");
     let expected = "\
-weight 1000006: 2 kept, 0 changed, 2 gone, 0 new; 0 not certain, 1 not known
+weight 16000006: 2 kept, 0 changed, 2 gone, 0 new; 0 not certain, 1 not known
 
 kept     recorded 0 label 1 is found 0 label 1
 kept     recorded 1 label 0 is found 1 label 0
@@ -354,7 +354,7 @@ gone     recorded 3 label 1; NOT KNOWN to be certain: to ask takes a label or a 
     let json = report(&out(&plant, &["match", "--json"]));
     assert_eq!(certain(&json, "recorded"), [sure(), sure(), sure(), unknown()]);
     // one less than the limit leaves room to ask
-    let json = report(&out(&plant.replace("1000000", "999999"), &["match", "--json"]));
+    let json = report(&out(&plant.replace("16000000", "15999999"), &["match", "--json"]));
     assert_eq!(certain(&json, "recorded"), [sure(), sure(), sure(), sure()]);
 }
 
@@ -368,9 +368,9 @@ fn where_weights_are_at_their_limit_it_is_not_known_whether_a_vertex_is_certainl
 
 #[test]
 fn where_there_is_no_room_to_ask_another_vertex_may_tell() {
-    let plant = "labels 1 1\nvertex 1000000\nedge 1\nrecorded 0\nfound 0 0\n0-1\n";
+    let plant = "labels 1 1\nvertex 16000000\nedge 1\nrecorded 0\nfound 0 0\n0-1\n";
     let expected = "\
-weight 1000000: 1 kept, 0 changed, 0 gone, 1 new; 2 not certain
+weight 16000000: 1 kept, 0 changed, 0 gone, 1 new; 2 not certain
 
 kept     recorded 0 label 0 is found 0 label 0; NOT CERTAIN: as heavy with found 1 label 0
 new      found 1 label 0, joined to 0 label 0 by label 0; NOT CERTAIN: as heavy with recorded 0 label 0
@@ -686,11 +686,14 @@ fn json_has_names_as_they_are() {
 #[test]
 fn the_largest_weight_there_is() {
     let path = |word: &str| tree(word, 64, |i| i - 1);
-    let plant = format!("labels 1 1\nvertex 1000000\nedge 1000000\n{}{}", path("recorded"), path("found"));
+    let plant = format!("labels 1 1\nvertex 16000000\nedge 16000000\n{}{}", path("recorded"), path("found"));
     let text = out(&plant, &["match", "--plain"]);
-    assert!(text.starts_with("weight 127000000\n"), "{text}");
+    assert!(text.starts_with("weight 2032000000\n"), "{text}");
     let listing = out(&plant, &["listing"]);
-    assert!(listing.starts_with("weight 127000000: vertex pairs 64, weighing 64000000; edge pairs 63, weighing 63000000\n"), "{listing}");
+    assert!(
+        listing.starts_with("weight 2032000000: vertex pairs 64, weighing 1024000000; edge pairs 63, weighing 1008000000\n"),
+        "{listing}"
+    );
 }
 
 #[test]
@@ -702,7 +705,7 @@ fn trees_with_the_greatest_number_of_edges_at_a_vertex_are_matched() {
 
 #[test]
 fn weights_at_the_limits_are_accepted() {
-    for weight in ["1000000", "-1000000"] {
+    for weight in ["16000000", "-16000000"] {
         let plant = format!("labels 1 1\nvertex {weight}\nedge {weight}\nrecorded 0\nfound 0\n");
         assert_eq!(of(&plant, &["match", "--plain"]).2, 0, "{weight}");
     }

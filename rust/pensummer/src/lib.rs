@@ -31,7 +31,7 @@ pub const VERTEX_LABELS_MOST: usize = 32;
 /// A table has no more edge labels.
 pub const EDGE_LABELS_MOST: usize = 8;
 /// A weight is no greater, and no less than the negative of this, unless it is [`FORBIDDEN`].
-pub const WEIGHT_MOST: i32 = 1_000_000;
+pub const WEIGHT_MOST: i32 = 16_000_000;
 /// The weight of a pair that no mapping may have.
 pub const FORBIDDEN: i32 = i32::MIN;
 /// The partner of a vertex without one.

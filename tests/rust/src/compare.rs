@@ -4,8 +4,8 @@
 use crate::certificate::{self, Record, HEAD, PARTNER};
 use crate::mapping;
 use crate::random::Random;
-use crate::reading::{number_at, Inputs, Plant, FORBIDDEN};
-use crate::values::{self, Order, MOST};
+use crate::reading::{number_at, Inputs, Plant, FORBIDDEN, WEIGHT_MOST};
+use crate::values::{self, Order, VALUE_MOST};
 use pensummer::{Job, Refusal, Sizes};
 
 /// Numbers in a record's `idle` that say that no job is running.
@@ -178,7 +178,7 @@ fn job_items(job: &Job, inputs: &Inputs, work: &[i32]) -> Result<(Plant, Order),
     let order = Order::of(&plant);
     for (of, &number) in order.subproblems.iter().zip(work).take(job.position as usize) {
         let fits = match plant.pair(of.u, of.v) {
-            Some(_) => (-1_000_000..=MOST).contains(&(number as i64)),
+            Some(_) => (-WEIGHT_MOST..=VALUE_MOST).contains(&number),
             None => number == FORBIDDEN,
         };
         if !fits {

@@ -1,7 +1,7 @@
 //! Plants to try: small ones of all shapes, large ones of several shapes, and tables of weights of many kinds.
 
 use crate::random::Random;
-use crate::reading::{table_bytes, tree_bytes, Inputs, FORBIDDEN};
+use crate::reading::{table_bytes, tree_bytes, Inputs, FORBIDDEN, WEIGHT_MOST};
 
 /// A shape: for each vertex but 0 an earlier vertex that it is joined to.
 pub type Shape = Vec<usize>;
@@ -100,16 +100,18 @@ impl Weights {
             Weights::SmallForbidden if forbidden_once_in(5, random) => FORBIDDEN,
             Weights::SmallForbidden => random.between(-5, 9) as i32,
             Weights::Wide if forbidden_once_in(8, random) => FORBIDDEN,
-            Weights::Wide => random.between(-1_000_000, 1_000_000) as i32,
-            Weights::Extremes => *random.pick(&[-1_000_000, -999_999, -1, 0, 1, 999_999, 1_000_000, 1_000_000, FORBIDDEN]),
+            Weights::Wide => random.between((-WEIGHT_MOST).into(), WEIGHT_MOST.into()) as i32,
+            Weights::Extremes => {
+                *random.pick(&[-WEIGHT_MOST, 1 - WEIGHT_MOST, -1, 0, 1, WEIGHT_MOST - 1, WEIGHT_MOST, WEIGHT_MOST, FORBIDDEN])
+            }
             Weights::Positive => random.between(0, 20) as i32,
             Weights::MostlyNegative if forbidden_once_in(4, random) => FORBIDDEN,
             Weights::MostlyNegative => random.between(-6, 2) as i32,
             Weights::Ties => *random.pick(&[0, 0, 1, 1, 1, -1]),
             Weights::Zero => 0,
             Weights::One => 1,
-            Weights::Most => 1_000_000,
-            Weights::Least => -1_000_000,
+            Weights::Most => WEIGHT_MOST,
+            Weights::Least => -WEIGHT_MOST,
             Weights::Forbidden => FORBIDDEN,
         }
     }
@@ -144,12 +146,17 @@ fn label_counts(random: &mut Random) -> (usize, usize) {
 
 /// A plant of two shapes, all else at random.
 pub fn plant(recorded: &Shape, found: &Shape, random: &mut Random) -> Inputs {
-    let (labels, edge_labels) = label_counts(random);
-    let (vertex, edge) = (Weights::any(random), Weights::any(random));
+    let labels = label_counts(random);
+    let weights = (Weights::any(random), Weights::any(random));
+    weighted(recorded, found, labels, weights, random)
+}
+
+/// A plant of these shapes with so many labels of vertices and of edges, and with these kinds of weights for them.
+pub fn weighted(recorded: &Shape, found: &Shape, labels: (usize, usize), weights: (Weights, Weights), random: &mut Random) -> Inputs {
     Inputs {
-        table: table(labels, edge_labels, vertex, edge, random),
-        recorded: tree(recorded, labels, edge_labels, random),
-        found: tree(found, labels, edge_labels, random),
+        table: table(labels.0, labels.1, weights.0, weights.1, random),
+        recorded: tree(recorded, labels.0, labels.1, random),
+        found: tree(found, labels.0, labels.1, random),
     }
 }
 

@@ -1,5 +1,8 @@
 //! The bytes of a table and a tree (layout), read by the paper's words: items 1 to 12.
 
+/// A weight that is not forbidden lies between the opposite of this and this, by paper 02, [2].
+pub const WEIGHT_MOST: i32 = 16_000_000;
+
 /// The number that stands for a forbidden weight.
 pub const FORBIDDEN: i32 = -2_147_483_648;
 
@@ -123,7 +126,7 @@ fn read_table(bytes: &[u8]) -> Result<Table, u32> {
     let row_of = |at: usize, count: usize| -> Vec<i32> { (0..count).map(|column| number_at(bytes, at + 2 + 4 * column)).collect() };
     let vertex: Vec<Vec<i32>> = (0..k).map(|row| row_of(vertex_row(row), k)).collect();
     let edge: Vec<Vec<i32>> = (0..l).map(|row| row_of(edge_row(row), l)).collect();
-    if vertex.iter().chain(&edge).flatten().any(|&w| w != FORBIDDEN && !(-1_000_000..=1_000_000).contains(&w)) {
+    if vertex.iter().chain(&edge).flatten().any(|&w| w != FORBIDDEN && !(-WEIGHT_MOST..=WEIGHT_MOST).contains(&w)) {
         return Err(2);
     }
     let weights = |rows: Vec<Vec<i32>>| -> Vec<Vec<Weight>> {

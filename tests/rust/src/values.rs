@@ -2,8 +2,8 @@
 
 use crate::reading::{Plant, Tree, FORBIDDEN};
 
-/// The largest number that is stored as a value.
-pub const MOST: i64 = 127_000_000;
+/// The largest number that is stored as a value, by paper 02, [2].
+pub const VALUE_MOST: i32 = 2_032_000_000;
 
 /// A subproblem: recorded u, found v, and s, which is v or a neighbour of v.
 #[derive(Clone, Copy, Debug, PartialEq, Eq)]
@@ -108,7 +108,7 @@ pub fn value(plant: &Plant, order: &Order, work: &[i32], of: Subproblem) -> i32 
             columns.iter().map(|&other| gain(plant, of.u, of.v, child, other, work[order.place(plant, child, other, of.v)])).collect()
         })
         .collect();
-    (own as i64 + heaviest_matching(&gains, columns.len())).min(MOST) as i32
+    (own as i64 + heaviest_matching(&gains, columns.len())).min(VALUE_MOST.into()) as i32
 }
 
 /// Solves the subproblems from place `from` up to place `to`.

@@ -3,10 +3,13 @@
 use pensummer_tests::certificate::{self, Record, HEAD, PARTNER};
 use pensummer_tests::compare;
 use pensummer_tests::mapping::{self, NONE};
-use pensummer_tests::plants::{self, small_shapes, Shape};
+use pensummer_tests::plants::{self, large_shapes, small_shapes, Shape, Weights};
 use pensummer_tests::random::Random;
-use pensummer_tests::reading::{number_at, table_bytes, tree_bytes, Inputs, Plant, FORBIDDEN};
-use pensummer_tests::values::{gain, Order};
+use pensummer_tests::reading::{number_at, table_bytes, tree_bytes, Inputs, Plant, FORBIDDEN, WEIGHT_MOST};
+use pensummer_tests::values::{gain, Order, VALUE_MOST};
+
+/// Weights at their limits.
+const EXTREMES: [Weights; 3] = [Weights::Most, Weights::Least, Weights::Extremes];
 
 /// A plant with its written certificate.
 struct Written {
@@ -257,7 +260,7 @@ fn amount(random: &mut Random) -> i64 {
         0 | 1 => 1,
         2 => random.between(1, 9),
         3 => random.between(1, 2_000_000),
-        4 => *random.pick(&[127_000_000, 1 << 30, (1 << 31) - 1, 1 << 31, (1 << 32) - 1]),
+        4 => *random.pick(&[VALUE_MOST.into(), 1 << 30, (1 << 31) - 1, 1 << 31, (1 << 32) - 1]),
         _ => random.between(1, 1 << 31),
     }
 }
@@ -328,7 +331,7 @@ fn forge(written: &Written, random: &mut Random) -> Vec<u8> {
         _ => {
             let place = random.below(1 + record.duals());
             let at = record.value_at() + 4 * place;
-            put(&mut bytes, at, *random.pick(&[0, 1, -1, FORBIDDEN, FORBIDDEN + 1, i32::MAX, 127_000_000, -1_000_000]));
+            put(&mut bytes, at, *random.pick(&[0, 1, -1, FORBIDDEN, FORBIDDEN + 1, i32::MAX, VALUE_MOST, -WEIGHT_MOST]));
         }
     }
     bytes
@@ -349,10 +352,35 @@ fn forged_weights_and_duals() {
 }
 
 #[test]
+fn forged_at_the_extremes() {
+    let mut random = Random::of_test("forged_at_the_extremes");
+    let (small, large) = (small_shapes(), large_shapes(&mut random));
+    let mut tally = Tally::new("forged at the extremes");
+    // weights at their limits: values and duals are as large as they get, and what is added to them goes past 32 bits
+    let mut look = |recorded: &Shape, found: &Shape, forgeries: usize, tally: &mut Tally| {
+        let weights = (*random.pick(&EXTREMES), *random.pick(&EXTREMES));
+        let written = Written::of(plants::weighted(recorded, found, (2, 2), weights, &mut random), &mut random);
+        for _ in 0..forgeries {
+            tally.add(&written, &forge(&written, &mut random));
+        }
+    };
+    for _ in 0..6 {
+        for (_, shape) in &large {
+            look(shape, shape, 40, &mut tally);
+        }
+    }
+    let mut shapes = Random::of_test("forged_at_the_extremes, shapes");
+    while tally.count < 40_000 {
+        look(shapes.pick(&small), shapes.pick(&small), 40, &mut tally);
+    }
+    tally.report(40_000, &[0, 21, 22, 23, 24]);
+}
+
+#[test]
 fn sums_past_32_bits() {
     // recorded 0-1, found 0-1-2; the root's pairs weigh the least, the child's 5, edges the most
     let inputs = Inputs {
-        table: table_bytes(&[vec![-1_000_000, -1_000_000], vec![5, 5]], &[vec![1_000_000]]),
+        table: table_bytes(&[vec![-WEIGHT_MOST, -WEIGHT_MOST], vec![5, 5]], &[vec![WEIGHT_MOST]]),
         recorded: tree_bytes(&[0, 1], &[(0, 1, 0)]),
         found: tree_bytes(&[0, 0, 0], &[(0, 1, 0), (1, 2, 0)]),
     };
@@ -366,7 +394,7 @@ fn sums_past_32_bits() {
     assert_eq!(written.check(&bytes), 23);
     // the pair then weighs more than 32 bits hold, and the duals cover it, with a value that fits
     let root = of(0, 0, 0);
-    let gain = 1_000_000 + i32::MAX as i64;
+    let gain = i64::from(WEIGHT_MOST) + i64::from(i32::MAX);
     put(&mut bytes, root.dual_at(0), 1 << 30);
     put(&mut bytes, root.dual_at(1), (gain - (1 << 30)) as i32);
     put(&mut bytes, root.value_at(), i32::MAX);
@@ -379,11 +407,11 @@ fn sums_past_32_bits() {
     let unused = of(0, 1, 0);
     let mut bytes = written.certificate.clone();
     put(&mut bytes, unused.dual_at(0), i32::MAX);
-    put(&mut bytes, unused.dual_at(1), 1_000_000);
+    put(&mut bytes, unused.dual_at(1), WEIGHT_MOST);
     put(&mut bytes, unused.value_at(), i32::MAX);
     assert_eq!(written.check(&bytes), 0);
     // the sum has to be exact, not right but for 2^32
     put(&mut bytes, unused.dual_at(1), i32::MAX);
-    put(&mut bytes, unused.value_at(), -1_000_000 - 2);
+    put(&mut bytes, unused.value_at(), -WEIGHT_MOST - 2);
     assert_eq!(written.check(&bytes), 23);
 }

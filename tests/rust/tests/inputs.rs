@@ -5,7 +5,7 @@ use pensummer::Job;
 use pensummer_tests::compare::{self, every_call, Lending, Solved, IDLE};
 use pensummer_tests::plants::{self, small_shapes, Weights};
 use pensummer_tests::random::Random;
-use pensummer_tests::reading::{Inputs, FORBIDDEN};
+use pensummer_tests::reading::{Inputs, FORBIDDEN, WEIGHT_MOST};
 
 /// What the calls are lent beside the inputs, right for a plant; the job is anywhere between its start and its end.
 fn lending(inputs: &Inputs, random: &mut Random) -> Lending {
@@ -237,7 +237,7 @@ fn several_faults_at_once() {
             match random.below(3) {
                 0 => table[at + random.below(2)] ^= 1 << random.below(8),
                 _ => {
-                    let weight: i32 = *random.pick(&[1_000_001, -1_000_001, FORBIDDEN + 1, i32::MAX]);
+                    let weight: i32 = *random.pick(&[WEIGHT_MOST + 1, -WEIGHT_MOST - 1, FORBIDDEN + 1, i32::MAX]);
                     let at = at + 2 + 4 * random.below(count);
                     table[at..at + 4].copy_from_slice(&weight.to_le_bytes());
                 }

@@ -4,8 +4,8 @@ use pensummer::Job;
 use pensummer_tests::compare::{self, Solved, IDLE};
 use pensummer_tests::plants::{self, small_shapes};
 use pensummer_tests::random::Random;
-use pensummer_tests::reading::{Inputs, Plant, FORBIDDEN};
-use pensummer_tests::values::Order;
+use pensummer_tests::reading::{Inputs, Plant, FORBIDDEN, WEIGHT_MOST};
+use pensummer_tests::values::{Order, VALUE_MOST};
 
 const FRESH: Job = Job { idle: 1, n: 0, m: 0, position: 0, total: 0 };
 
@@ -89,14 +89,14 @@ fn plausible(plant: &Plant, random: &mut Random) -> Vec<i32> {
         .iter()
         .map(|of| match plant.pair(of.u, of.v) {
             None => FORBIDDEN,
-            Some(_) if most => *random.pick(&[127_000_000, 127_000_000, 126_999_999, 126_000_000, -1_000_000, 0]),
-            Some(_) => random.between(-1_000_000, 127_000_000) as i32,
+            Some(_) if most => *random.pick(&[VALUE_MOST, VALUE_MOST, VALUE_MOST - 1, VALUE_MOST - WEIGHT_MOST, -WEIGHT_MOST, 0]),
+            Some(_) => random.between((-WEIGHT_MOST).into(), VALUE_MOST.into()) as i32,
         })
         .collect()
 }
 
 /// Numbers about the limits of item 16.
-const STRANGE: [i32; 8] = [127_000_000, 127_000_001, -1_000_000, -1_000_001, FORBIDDEN, FORBIDDEN + 1, i32::MAX, 0];
+const STRANGE: [i32; 8] = [VALUE_MOST, VALUE_MOST + 1, -WEIGHT_MOST, -WEIGHT_MOST - 1, FORBIDDEN, FORBIDDEN + 1, i32::MAX, 0];
 
 /// All that a caller keeps between the calls of a job.
 #[derive(Clone)]
@@ -113,10 +113,10 @@ fn alter(kept: &mut Kept, shapes: &[plants::Shape], random: &mut Random) {
         0 if done > 0 => {
             let at = random.below(done);
             if kept.work[at] != FORBIDDEN {
-                kept.work[at] = random.between(-1_000_000, 127_000_000) as i32;
+                kept.work[at] = random.between((-WEIGHT_MOST).into(), VALUE_MOST.into()) as i32;
             }
         }
-        1 if done > 0 => kept.work[..done].iter_mut().filter(|number| **number != FORBIDDEN).for_each(|number| *number = 127_000_000),
+        1 if done > 0 => kept.work[..done].iter_mut().filter(|number| **number != FORBIDDEN).for_each(|number| *number = VALUE_MOST),
         2 if done > 0 => kept.work[random.below(done)] = *random.pick(&STRANGE),
         3 if !kept.work.is_empty() => {
             let at = random.below(kept.work.len());

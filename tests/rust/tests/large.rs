@@ -3,9 +3,11 @@
 use pensummer::Job;
 use pensummer_tests::certificate;
 use pensummer_tests::compare::{self, Solved};
+use pensummer_tests::mapping::NONE;
 use pensummer_tests::plants::{self, large_shapes, Shape, Weights, WEIGHTS};
 use pensummer_tests::random::Random;
-use pensummer_tests::reading::Inputs;
+use pensummer_tests::reading::{number_at, Inputs};
+use pensummer_tests::values::VALUE_MOST;
 
 /// The work numbers that this plant wants.
 fn wanted(inputs: &Inputs) -> usize {
@@ -14,12 +16,21 @@ fn wanted(inputs: &Inputs) -> usize {
 
 /// A plant of two large shapes with these kinds of weights.
 fn large(recorded: &Shape, found: &Shape, vertex: Weights, edge: Weights, random: &mut Random) -> Inputs {
-    let (labels, edge_labels) = *random.pick(&[(1, 1), (3, 2), (32, 8)]);
-    Inputs {
-        table: plants::table(labels, edge_labels, vertex, edge, random),
-        recorded: plants::tree(recorded, labels, edge_labels, random),
-        found: plants::tree(found, labels, edge_labels, random),
+    let labels = *random.pick(&[(1, 1), (3, 2), (32, 8)]);
+    plants::weighted(recorded, found, labels, (vertex, edge), random)
+}
+
+/// A job from its start until all is solved, in slices of fewer subproblems than this; its record, its work numbers and the count of slices.
+fn in_slices(inputs: &Inputs, most: usize, random: &mut Random) -> (Job, Vec<i32>, usize) {
+    let mut job = Job::fresh();
+    let mut work: Vec<i32> = (0..wanted(inputs)).map(|_| random.number()).collect();
+    compare::start(&mut job, inputs, &work, random).expect("a start");
+    let mut slices = 0;
+    while (job.position as usize) < work.len() {
+        compare::advance(&mut job, inputs, random.below(most) as u32, &mut work, random).expect("an advance");
+        slices += 1;
     }
+    (job, work, slices)
 }
 
 #[test]
@@ -39,14 +50,8 @@ fn plants_of_middle_size() {
         let sizes = compare::sizes(&inputs).expect("an accepted plant");
         let (values, length) = (sizes.work, sizes.certificate);
         compare::match_trees(&inputs, values + random.below(2), n + random.below(2), &mut random).expect("a match");
-        let mut job = Job::fresh();
-        let mut work: Vec<i32> = (0..values).map(|_| random.number()).collect();
-        compare::start(&mut job, &inputs, &work, &mut random).expect("a start");
-        while (job.position as usize) < values {
-            let budget = random.below(values) as u32 / 2 + 1;
-            compare::advance(&mut job, &inputs, budget, &mut work, &mut random).expect("an advance");
-            slices += 1;
-        }
+        let (job, work, count) = in_slices(&inputs, values / 2 + 2, &mut random);
+        slices += count;
         assert_eq!(compare::finish(&job, &inputs, &work, n, &mut random), Ok(solved.weight), "{inputs:?}");
         let written = compare::write(&inputs, values, length + random.below(2), &mut random).expect("a written certificate");
         let records = certificate::records(&solved.plant, &solved.order);
@@ -94,7 +99,7 @@ fn every_kind_of_weights() {
             let weight = Solved::read(&inputs).unwrap().weight;
             match weights {
                 // a tree with itself: everything is mapped
-                Weights::Most => assert_eq!(weight, 127_000_000, "{name}"),
+                Weights::Most => assert_eq!(weight, 2_032_000_000, "{name}"),
                 Weights::One => assert_eq!(weight, 127, "{name}"),
                 Weights::Forbidden | Weights::Least | Weights::Zero => assert_eq!(weight, 0, "{name}"),
                 _ => {}
@@ -109,8 +114,30 @@ fn every_kind_of_weights() {
             tried += 1;
         }
     }
-    assert_eq!(heaviest, 127_000_000);
+    assert_eq!(heaviest, 2_032_000_000);
     println!("{tried} plants");
+}
+
+#[test]
+fn the_greatest_and_the_least_weights() {
+    let mut random = Random::of_test("the_greatest_and_the_least_weights");
+    let shapes = large_shapes(&mut random);
+    for (name, shape) in &shapes {
+        // a tree with itself: everything is mapped, or nothing
+        for (weights, heaviest, mapped) in [(Weights::Most, 2_032_000_000, 64), (Weights::Least, 0, 0)] {
+            let mut inputs = large(shape, shape, weights, weights, &mut random);
+            inputs.found.clone_from(&inputs.recorded);
+            let mapping = compare::match_trees(&inputs, wanted(&inputs), 64, &mut random).expect("a match");
+            assert_eq!(mapping.iter().filter(|&&partner| partner != NONE).count(), mapped, "{name}");
+            let (job, work, _) = in_slices(&inputs, 3_000, &mut random);
+            assert_eq!(compare::finish(&job, &inputs, &work, 64, &mut random), Ok(heaviest), "{name}");
+            // compare::write has both checks accept it
+            let length = compare::sizes(&inputs).expect("an accepted plant").certificate;
+            let written = compare::write(&inputs, work.len(), length, &mut random).expect("a written certificate");
+            assert_eq!(number_at(&written, 4), heaviest, "{name}");
+        }
+    }
+    println!("{} trees", shapes.len());
 }
 
 #[test]
@@ -122,19 +149,13 @@ fn jobs_in_slices() {
         let found = &random.pick(&shapes).1;
         let inputs = large(shape, found, Weights::Wide, Weights::SmallForbidden, &mut random);
         let solved = Solved::read(&inputs).expect("an accepted plant");
-        let mut job = Job::fresh();
-        let mut work: Vec<i32> = (0..wanted(&inputs)).map(|_| random.number()).collect();
-        compare::start(&mut job, &inputs, &work, &mut random).expect("a start");
-        while (job.position as usize) < work.len() {
-            let budget = random.below(1_500) as u32;
-            compare::advance(&mut job, &inputs, budget, &mut work, &mut random).expect("an advance");
-        }
+        let (job, mut work, _) = in_slices(&inputs, 1_500, &mut random);
         assert_eq!(job, Job { idle: 0, n: 64, m: 64, position: 12_160, total: 12_160 });
         assert_eq!(work, solved.values);
         assert_eq!(compare::finish(&job, &inputs, &work, 64, &mut random), Ok(solved.weight));
         // the same end with every allowed number at its most: the mapping is legal and its weight exact
         for number in work.iter_mut().filter(|number| **number != i32::MIN) {
-            *number = 127_000_000;
+            *number = VALUE_MOST;
         }
         compare::finish(&job, &inputs, &work, 64, &mut random).expect("a finish");
         // and an advance over them stores no more than the most

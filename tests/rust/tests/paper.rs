@@ -96,7 +96,7 @@ fn small_plant_10_and_limits() {
     let edge_kind = tree_bytes(&[0, 0], &[(0, 1, 1)]);
     assert_eq!(both(&edge_kind), [4, 9]);
     for (weight, item) in
-        [(1_000_000, 0), (1_000_001, 2), (-1_000_000, 0), (-1_000_001, 2), (FORBIDDEN, 0), (FORBIDDEN + 1, 2), (i32::MAX, 2)]
+        [(16_000_000, 0), (16_000_001, 2), (-16_000_000, 0), (-16_000_001, 2), (FORBIDDEN, 0), (FORBIDDEN + 1, 2), (i32::MAX, 2)]
     {
         for table in [table_bytes(&[vec![weight]], &[vec![0]]), table_bytes(&[vec![0]], &[vec![weight]])] {
             assert_eq!(refused(&Inputs { table, recorded: one.clone(), found: one.clone() }), item, "weight {weight}");

@@ -6,7 +6,7 @@ use pensummer_tests::certificate;
 use pensummer_tests::compare::{self, every_call, Lending};
 use pensummer_tests::plants::{self, small_shapes, Weights};
 use pensummer_tests::random::Random;
-use pensummer_tests::reading::{table_bytes, tree_bytes, Inputs};
+use pensummer_tests::reading::{table_bytes, tree_bytes, Inputs, WEIGHT_MOST};
 
 /// Runs a job in slices over exactly the work numbers wanted. Its counts must add up to the subproblems; a finish must be refused by 17 before
 /// that and not after, and a further advance must count nothing. Gives back the record and the work numbers at the end.
@@ -111,7 +111,7 @@ fn faulty(items: &[u32]) -> Inputs {
         table[5] = 0x50;
     }
     if has(2) {
-        table[6..10].copy_from_slice(&1_000_001i32.to_le_bytes());
+        table[6..10].copy_from_slice(&(WEIGHT_MOST + 1).to_le_bytes());
     }
     let tree = |first: u32| {
         // a path of three, and then a centre with leaves: each fault has edges of its own

@@ -5,6 +5,7 @@ use crate::plants::{Random, X};
 use desk::certificate::{Certificate, Record};
 use desk::graph::Graph;
 use desk::plant::Plant;
+use pensummer::WEIGHT_MOST;
 
 pub fn number(bytes: &[u8], at: usize) -> i32 {
     i32::from_le_bytes([bytes[at], bytes[at + 1], bytes[at + 2], bytes[at + 3]])
@@ -68,7 +69,7 @@ fn change(random: &mut Random, bytes: &mut [u8], at: usize) {
         return;
     }
     let other = match random.below(3) {
-        0 => random.pick(&[0, 1, -1, X, X + 1, i32::MAX, 1_000_000, -1_000_000]),
+        0 => random.pick(&[0, 1, -1, X, X + 1, i32::MAX, WEIGHT_MOST, -WEIGHT_MOST]),
         1 => number(bytes, at).wrapping_add(random.pick(&[1, -1])),
         _ => number(bytes, at).wrapping_add(random.between(-9, 9)),
     };

@@ -1,7 +1,7 @@
 //! Plants for the tests of certificates, built directly: small ones of the paper, one with names, random ones; the
 //! library over them.
 use desk::plant::{At, Edge, Place, Plant, Table, Tree, Vertex, Weights};
-use pensummer::{Inputs, Sizes, FORBIDDEN, VERTICES_MOST};
+use pensummer::{Inputs, Sizes, FORBIDDEN, VERTICES_MOST, WEIGHT_MOST};
 
 pub const X: i32 = FORBIDDEN;
 
@@ -84,7 +84,7 @@ pub fn named_plant() -> Plant {
 fn random_weight(random: &mut Random) -> i32 {
     match random.below(10) {
         0 | 1 => FORBIDDEN,
-        2 => random.pick(&[-1_000_000, 1_000_000, 999_999, 0]),
+        2 => random.pick(&[-WEIGHT_MOST, WEIGHT_MOST, WEIGHT_MOST - 1, 0]),
         _ => random.between(-5, 9),
     }
 }

@@ -74,8 +74,8 @@ impl Random {
 fn weights(random: &mut Random, word: &str, labels: u32) -> String {
     let mut weight = |i, j| match random.below(4) {
         0 => "forbidden".to_owned(),
-        _ if i == j => "1000000".to_owned(),
-        _ => ((i64::from(random.below(1001)) - 1000) * 1000).to_string(),
+        _ if i == j => "16000000".to_owned(),
+        _ => ((i64::from(random.below(1001)) - 1000) * 16000).to_string(),
     };
     (0..labels).map(|i| row(word, (0..labels).map(|j| weight(i, j)).collect::<Vec<_>>().into_iter())).collect()
 }

@@ -1,6 +1,6 @@
 //! Random plants to be written as text, with the bytes and names that the text must give.
 use pensummer_tests::random::Random;
-use pensummer_tests::reading::{table_bytes, tree_bytes, Inputs, FORBIDDEN};
+use pensummer_tests::reading::{table_bytes, tree_bytes, Inputs, FORBIDDEN, WEIGHT_MOST};
 
 /// Vertex labels or edge labels.
 pub struct Labels {
@@ -72,8 +72,8 @@ pub fn is_digits(text: &str) -> bool {
 fn weight(random: &mut Random, size: Size) -> i32 {
     match random.below(12) {
         0 | 1 => FORBIDDEN,
-        2 => *random.pick(&[1_000_000, 999_999, -1_000_000]),
-        3 if size == Size::Any => *random.pick(&[i32::MAX, i32::MIN + 1, 1_000_001, -1_000_001]),
+        2 => *random.pick(&[WEIGHT_MOST, WEIGHT_MOST - 1, -WEIGHT_MOST]),
+        3 if size == Size::Any => *random.pick(&[i32::MAX, i32::MIN + 1, WEIGHT_MOST + 1, -WEIGHT_MOST - 1]),
         4 if size == Size::Any => random.number(),
         5..=7 => random.between(-1, 1) as i32,
         _ => random.between(-6, 9) as i32,

@@ -1,9 +1,7 @@
 //! Whole answers of small plants: what is certain, compared with all mappings, and the forms of what is printed.
 use desk::answer::{Answer, Certainty};
 use pensummer_tests::mapping::{is_mapping, weight, NONE};
-use pensummer_tests::reading::Plant;
-
-const WEIGHT_MOST: i32 = 1_000_000;
+use pensummer_tests::reading::{Plant, WEIGHT_MOST};
 
 /// Every heaviest mapping, by going through all mappings.
 pub struct Heaviest {

@@ -8,7 +8,7 @@ use Rattle.foundations.specs.Machine.{back}
 use Rattle.foundations.specs.Sums.{sumℤ}
 use Rattle.model.specs.Tree.{count, endA, endB}
 use Rattle.model.specs.Mapping.{edgeTerm, edgePairs}
-use Rattle.mappings.specs.WeighLaws.{SumTo, modest, sum-none, sum-more}
+use Rattle.mappings.specs.WeighLaws.{SumTo, small-sum, sum-none, sum-more}
 use borrow.Author.Needs.{needs}
 use native.Mathlib.Omega.{arith}
 use Rattle.mappings.proofs.weigh.sum_edges.Statement.{statement}
@@ -33,7 +33,7 @@ edge-term-requires : tie.Need-edge-term-requires Inv-loop μ-loop
 edge-term-requires c κs = let s = c .before .before .before .before .before .before .before in (s .pre .0, (s .pre .1, omega arith))
 
 add-requires : tie.Need-add-requires Inv-loop μ-loop
-add-requires c κs = (modest (omega arith) (c .before .before .loop .inv .1), rw (back (c .edge-term .ok)) (modest {k = 1} (omega arith) (c .edge-term .ensures)))
+add-requires c κs = rw (back (c .edge-term .ok)) (small-sum {k = 1} (omega arith) (c .before .before .loop .inv .1) (c .edge-term .ensures))
 
 loop-again : tie.Need-loop-again Inv-loop μ-loop
 loop-again c = (omega arith, rw (back (c .add .ok)) (sum-more _ _ (toZ w32 (c .before .before .before .loop .s)) (c .before .edge-term .result) (c .add .result) (c .before .before .before .loop .inv .1) (c .before .edge-term .ensures) (c .add .ensures ∙ rw (back (c .before .edge-term .ok)))))

@@ -9,7 +9,7 @@ use Rattle.foundations.specs.Sums.{sumℤ}
 use Rattle.model.specs.Limits.{vertexLimit}
 use Rattle.model.specs.Tree.{count}
 use Rattle.model.specs.Mapping.{vertexPairs}
-use Rattle.mappings.specs.WeighLaws.{SumTo, vertexTerm, modest, sum-none, sum-more}
+use Rattle.mappings.specs.WeighLaws.{SumTo, vertexTerm, small-sum, sum-none, sum-more}
 use borrow.Author.Needs.{needs}
 use native.Mathlib.Omega.{arith}
 use Rattle.mappings.proofs.weigh.sum_vertices.Statement.{statement}
@@ -34,7 +34,7 @@ vertex-term-requires : tie.Need-vertex-term-requires Inv-loop μ-loop
 vertex-term-requires c κs = search needs
 
 add-requires : tie.Need-add-requires Inv-loop μ-loop
-add-requires c κs = (modest (omega arith) (c .before .before .loop .inv .2), rw (back (c .vertex-term .ok)) (modest {k = 1} (omega arith) (c .vertex-term .ensures)))
+add-requires c κs = rw (back (c .vertex-term .ok)) (small-sum {k = 1} (omega arith) (c .before .before .loop .inv .2) (c .vertex-term .ensures))
 
 loop-again : tie.Need-loop-again Inv-loop μ-loop
 loop-again c = (omega arith, c .before .before .before .loop .inv .1, rw (back (c .add .ok)) (sum-more _ _ (toZ w32 (c .before .before .before .loop .s)) (c .before .vertex-term .result) (c .add .result) (c .before .before .before .loop .inv .2) (c .before .vertex-term .ensures) (c .add .ensures ∙ rw (back (c .before .vertex-term .ok)))))

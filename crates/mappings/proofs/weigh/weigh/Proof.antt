@@ -2,7 +2,7 @@
 use mathlib.Core.Path.{_∙_}
 use Rattle.foundations.specs.Machine.{back}
 use Rattle.plan.specs.Numbers.{ready-accepted}
-use Rattle.mappings.specs.WeighLaws.{Ground, modest, weighs-all}
+use Rattle.mappings.specs.WeighLaws.{Ground, small-sum, weighs-all}
 use native.Mathlib.Omega.{arith}
 use Rattle.mappings.proofs.weigh.weigh.Statement.{statement}
 use Rattle.mappings.proofs.weigh.weigh.Tie as tie
@@ -22,7 +22,7 @@ sum-edges-requires c κs = (made (c .before), c .before .before .before .before 
 
 add-requires : tie.Need-add-requires
 add-requires c κs = let g = made (c .before .before) in
-    (rw (back (c .before .sum-vertices .ok)) (modest (omega (arith, g .accepted .recorded .ends .few)) (c .before .sum-vertices .ensures)), rw (back (c .sum-edges .ok)) (modest (omega (arith, g .accepted .recorded .ends .few)) (c .sum-edges .ensures)))
+    rw (back (c .before .sum-vertices .ok), back (c .sum-edges .ok)) (small-sum (omega (arith, g .accepted .recorded .ends .few)) (c .before .sum-vertices .ensures) (c .sum-edges .ensures))
 
 returns : tie.Need-returns
 returns c = let s = c .before .before .sum-vertices in
