@@ -1,8 +1,9 @@
--- A certificate of case 8 with all its duals, and spoiled for each of items 20 to 24: duals are what case 9 lacks. Assumes nothing.
+-- A certificate of case 8 with all its duals, and spoiled for each of items 20 to 24: duals are what case 9 lacks. Certificates with weights, values and
+-- duals at their ends: weights up to the limits of paper 02, [2], the others up to what 4 signed bytes hold. Assumes nothing.
 use mathlib.Core.Path.{refl}
 use mathlib.Core.List.{List, [], _∷_, _++_}
 use Prim.Native.Nat.{ℕ}
-use lib.IntN.{ℤ, pos}
+use lib.IntN.{ℤ, pos, negsuc, negℤ}
 use Rattle.foundations.specs.Counting.{cnt}
 use Rattle.foundations.specs.Lists.{every, tab, below, cat}
 use Rattle.foundations.specs.Members.{mem, del, place}
@@ -22,7 +23,7 @@ use Rattle.model.specs.Tree.{sized, marked, labelsKnown, endsLow, closes, acycl
 use Rattle.model.specs.Values.{greatest, largest}
 use Rattle.model.specs.Weights.{isForbidden, inRange, weightOk, weighed}
 use Rattle.cases.specs.Expected.{checked, Row, plant, All, end, _then_}
-use Rattle.cases.specs.Plants.{wordBytes, weights, tableOf, rows, vertexBytes, edge, edgesOf, treeOf, star, table8}
+use Rattle.cases.specs.Plants.{wordBytes, weights, tableOf, rows, vertexBytes, edge, edgesOf, treeOf, path, star, table8, tableOne, most, least, tooGreat, tooLow}
 
 -- each record by its value and its duals
 unfoldable pub recordsOf : List (List ℤ) → List ℕ
@@ -49,6 +50,15 @@ certificate8 w p q a b = certificateOf 3 3 w (0 ∷ p ∷ q ∷ []) (
     ∷ (forbidden ∷ pos 0 ∷ pos 0 ∷ pos 0 ∷ []) ∷ (forbidden ∷ pos 0 ∷ pos 0 ∷ [])
     ∷ [])
 
+-- of one recorded vertex and a found path of three: its weight, the partner, the value of every record but two, and those two, of v = 1 with s = 1 and with
+-- s = 0. The first is one of those that item 24 looks at, the second is not
+unfoldable pub certificateEnds : ℤ → ℕ → ℤ → List ℤ → List ℤ → List ℕ
+certificateEnds w p x own other = certificateOf 1 3 w (p ∷ []) (
+    (x ∷ pos 0 ∷ []) ∷ (x ∷ [])
+    ∷ own ∷ other ∷ (x ∷ pos 0 ∷ [])
+    ∷ (x ∷ pos 0 ∷ []) ∷ (x ∷ [])
+    ∷ [])
+
 abbrev pub certificates : List Row
 certificates =
     plant 1 table8 (star (0 ∷ 1 ∷ 2 ∷ [])) (star (0 ∷ 1 ∷ 2 ∷ [])) (checked (certificate8 (pos 13) 2 1 (pos 4) (pos 3)) 0)
@@ -59,8 +69,18 @@ certificates =
     ∷ plant 5 table8 (star (0 ∷ 1 ∷ 2 ∷ [])) (star (0 ∷ 1 ∷ 2 ∷ [])) (checked (certificate8 (pos 13) 2 1 (pos 3) (pos 4)) 23)
     -- a lighter mapping with its own weight
     ∷ plant 6 table8 (star (0 ∷ 1 ∷ 2 ∷ [])) (star (0 ∷ 1 ∷ 2 ∷ [])) (checked (certificate8 (pos 10) 1 2 (pos 4) (pos 3)) 24)
+    -- the greatest weight: right; one more in the head, in a value
+    ∷ plant 7 (tableOne most most) (path (0 ∷ [])) (path (0 ∷ 0 ∷ 0 ∷ [])) (checked (certificateEnds most 2 most (most ∷ pos 0 ∷ pos 0 ∷ []) (most ∷ pos 0 ∷ [])) 0)
+    ∷ plant 8 (tableOne most most) (path (0 ∷ [])) (path (0 ∷ 0 ∷ 0 ∷ [])) (checked (certificateEnds tooGreat 2 most (most ∷ pos 0 ∷ pos 0 ∷ []) (most ∷ pos 0 ∷ [])) 22)
+    ∷ plant 9 (tableOne most most) (path (0 ∷ [])) (path (0 ∷ 0 ∷ 0 ∷ [])) (checked (certificateEnds most 2 most (most ∷ pos 0 ∷ pos 0 ∷ []) (tooGreat ∷ pos 0 ∷ [])) 23)
+    -- the least: the empty mapping; the greatest dual that 4 bytes hold, with the sum as value; the same where item 24 looks; one below 0
+    ∷ plant 10 (tableOne least least) (path (0 ∷ [])) (path (0 ∷ 0 ∷ 0 ∷ [])) (checked (certificateEnds (pos 0) 255 least (least ∷ pos 0 ∷ pos 0 ∷ []) (pos 2131483647 ∷ pos 2147483647 ∷ [])) 0)
+    ∷ plant 11 (tableOne least least) (path (0 ∷ [])) (path (0 ∷ 0 ∷ 0 ∷ [])) (checked (certificateEnds (pos 0) 255 least (pos 2131483647 ∷ pos 2147483647 ∷ pos 0 ∷ []) (least ∷ pos 0 ∷ [])) 24)
+    ∷ plant 12 (tableOne least least) (path (0 ∷ [])) (path (0 ∷ 0 ∷ 0 ∷ [])) (checked (certificateEnds (pos 0) 255 least (least ∷ pos 0 ∷ pos 0 ∷ []) (tooLow ∷ negsuc 0 ∷ [])) 23)
+    -- a sum of 2 duals and a weight that is right but for 2 ^ 32
+    ∷ plant 13 (tableOne least least) (path (0 ∷ [])) (path (0 ∷ 0 ∷ 0 ∷ [])) (checked (certificateEnds (pos 0) 255 least (negℤ (pos 16000002) ∷ pos 2147483647 ∷ pos 2147483647 ∷ []) (least ∷ pos 0 ∷ [])) 23)
     ∷ []
 
 pub certificate-cases : All certificates
-unfolding recordsOf certificateOf certificate8 wordBytes weights rows tableOf vertexBytes edge edgesOf treeOf star table8 inputItem firstOf tableSized tableMarked weightsOk rowOk weightOk isForbidden inRange vertexWeight edgeWeight weighed sized marked labelsKnown endsLow closes acyclic degree fewEdges component joins joinedBy neighbours edgeBefore edgeLabel parent parentIn children vertexPair edgePair mapped num vertexPairs edgePairs weight allowed parentMapped vertexOk edgeOk isTop mappingOk greatest largest signed32 bits32 every below mem del sumℤ cnt cat checkOf shapeOk squares certificateLength recordLength recordAt mappingIn valueIn childDual otherDual valueOf eqZ atMost forbiddenOk coverOk dualsOk pairOk subproblemOk postorderFrom postorder position width subproblems offset slot index vertexAt uAt vAt sAt tab place
-certificate-cases = refl then refl then refl then refl then refl then refl then end
+unfolding recordsOf certificateOf certificate8 certificateEnds wordBytes weights rows tableOf vertexBytes edge edgesOf treeOf path star table8 tableOne inputItem firstOf tableSized tableMarked weightsOk rowOk weightOk isForbidden inRange vertexWeight edgeWeight weighed sized marked labelsKnown endsLow closes acyclic degree fewEdges component joins joinedBy neighbours edgeBefore edgeLabel parent parentIn children vertexPair edgePair mapped num vertexPairs edgePairs weight allowed parentMapped vertexOk edgeOk isTop mappingOk greatest largest signed32 bits32 every below mem del sumℤ cnt cat checkOf shapeOk squares certificateLength recordLength recordAt mappingIn valueIn childDual otherDual valueOf eqZ atMost forbiddenOk coverOk dualsOk pairOk subproblemOk postorderFrom postorder position width subproblems offset slot index vertexAt uAt vAt sAt tab place
+certificate-cases = refl then refl then refl then refl then refl then refl then refl then refl then refl then refl then refl then refl then refl then end

@@ -1,5 +1,5 @@
 -- Rows that the small plants lack: wrong turns of paper 01 (a matching that must be full, adding to a forbidden weight; the others are cases
--- 8, 6 and 4), and a table that is not symmetric. Assumes nothing.
+-- 8, 6 and 4), a table that is not symmetric, and weights at the limits of paper 02, [2]. Assumes nothing.
 use mathlib.Core.Path.{refl}
 use mathlib.Core.List.{List, [], _∷_}
 use Prim.Native.Nat.{ℕ}
@@ -21,8 +21,8 @@ use Rattle.model.specs.Table.{vertexWeight, edgeWeight, tableSized, tableMarked
 use Rattle.model.specs.Tree.{sized, marked, labelsKnown, endsLow, closes, acyclic, degree, fewEdges}
 use Rattle.model.specs.Values.{greatest, best, valueFrom, valueTo, value, largest, answer}
 use Rattle.model.specs.Weights.{isForbidden, inRange, weightOk, weighed}
-use Rattle.cases.specs.Expected.{weighs, Row, plant, All, end, _then_, by-test}
-use Rattle.cases.specs.Plants.{wordBytes, weights, rows, tableOf, vertexBytes, edge, edgesOf, treeOf, path, tableP, table7}
+use Rattle.cases.specs.Expected.{weighs, refused, Row, plant, All, end, _then_, by-test}
+use Rattle.cases.specs.Plants.{wordBytes, weights, rows, tableOf, vertexBytes, edge, edgesOf, treeOf, path, tableP, table7, tableOne, most, least, tooGreat, tooLow, nearForbidden}
 
 -- pair (0,0) 5, others forbidden; edge weight -1
 unfoldable pub tableLow : List ℕ
@@ -42,14 +42,34 @@ furtherPlants =
     -- rows belong to recorded labels, columns to found ones
     ∷ plant 4 tableUneven (path (0 ∷ [])) (path (1 ∷ [])) (weighs (pos 7) (0 ∷ []))
     ∷ plant 5 tableUneven (path (1 ∷ [])) (path (0 ∷ [])) (weighs (pos 2) (0 ∷ []))
+    -- the greatest weights are added up exactly; the least and forbidden ones give the empty mapping
+    ∷ plant 6 (tableOne most most) (path (0 ∷ 0 ∷ 0 ∷ 0 ∷ [])) (path (0 ∷ 0 ∷ 0 ∷ 0 ∷ [])) (weighs (pos 112000000) (0 ∷ 1 ∷ 2 ∷ 3 ∷ []))
+    ∷ plant 7 (tableOne least least) (path (0 ∷ 0 ∷ [])) (path (0 ∷ 0 ∷ [])) (weighs (pos 0) (255 ∷ 255 ∷ []))
+    ∷ plant 8 (tableOne forbidden forbidden) (path (0 ∷ 0 ∷ [])) (path (0 ∷ 0 ∷ [])) (weighs (pos 0) (255 ∷ 255 ∷ []))
+    -- item 2: one beyond either limit, one above the forbidden number, of vertices and of edges
+    ∷ plant 9 (tableOne tooGreat most) (path (0 ∷ [])) (path (0 ∷ [])) (refused 2)
+    ∷ plant 10 (tableOne most tooGreat) (path (0 ∷ [])) (path (0 ∷ [])) (refused 2)
+    ∷ plant 11 (tableOne tooLow least) (path (0 ∷ [])) (path (0 ∷ [])) (refused 2)
+    ∷ plant 12 (tableOne least tooLow) (path (0 ∷ [])) (path (0 ∷ [])) (refused 2)
+    ∷ plant 13 (tableOne nearForbidden forbidden) (path (0 ∷ [])) (path (0 ∷ [])) (refused 2)
+    ∷ plant 14 (tableOne forbidden nearForbidden) (path (0 ∷ [])) (path (0 ∷ [])) (refused 2)
     ∷ []
 
 pub further-plants : All furtherPlants
-unfolding wordBytes weights rows tableOf vertexBytes edge edgesOf treeOf path tableP table7 tableLow tableUneven inputItem firstOf tableSized tableMarked weightsOk rowOk weightOk isForbidden inRange vertexWeight edgeWeight weighed sized marked labelsKnown endsLow closes acyclic degree fewEdges component joins joinedBy neighbours edgeBefore edgeLabel parent parentIn children vertexPair edgePair mapped num vertexPairs edgePairs weight allowed parentMapped vertexOk edgeOk isTop mappingOk greatest best valueFrom valueTo value largest answer signed32 bits32 every below mem del sumℤ cnt cat
+unfolding wordBytes weights rows tableOf vertexBytes edge edgesOf treeOf path tableP table7 tableOne tableLow tableUneven inputItem firstOf tableSized tableMarked weightsOk rowOk weightOk isForbidden inRange vertexWeight edgeWeight weighed sized marked labelsKnown endsLow closes acyclic degree fewEdges component joins joinedBy neighbours edgeBefore edgeLabel parent parentIn children vertexPair edgePair mapped num vertexPairs edgePairs weight allowed parentMapped vertexOk edgeOk isTop mappingOk greatest best valueFrom valueTo value largest answer signed32 bits32 every below mem del sumℤ cnt cat
 further-plants =
     by-test refl refl refl refl
     then by-test refl refl refl refl
     then by-test refl refl refl refl
     then by-test refl refl refl refl
     then by-test refl refl refl refl
+    then by-test refl refl refl refl
+    then by-test refl refl refl refl
+    then by-test refl refl refl refl
+    then refl
+    then refl
+    then refl
+    then refl
+    then refl
+    then refl
     then end

@@ -1,7 +1,7 @@
 -- Tables and trees written as the bytes of paper 01. Assumes nothing.
 use mathlib.Core.List.{List, [], _∷_, _++_}
 use Prim.Native.Nat.{ℕ, suc, _-_, _/_, _%_}
-use lib.IntN.{ℤ, pos, negsuc}
+use lib.IntN.{ℤ, pos, negsuc, negℤ}
 use lib.ListN.{length, take, replicate}
 use Rattle.foundations.specs.Lists.{cat}
 use Rattle.model.specs.Bytes.{bits32}
@@ -66,6 +66,27 @@ table8 =
     tableOf
     ((pos 5 ∷ forbidden ∷ forbidden ∷ []) ∷ (forbidden ∷ pos 5 ∷ pos 4 ∷ []) ∷ (forbidden ∷ pos 4 ∷ pos 0 ∷ []) ∷ [])
     ((pos 0 ∷ []) ∷ [])
+
+-- ---- one label of vertices and one of edges, and what either weighs
+
+unfoldable pub tableOne : ℤ → ℤ → List ℕ
+tableOne v e = tableOf ((v ∷ []) ∷ []) ((e ∷ []) ∷ [])
+
+-- the greatest weight and the least, one beyond each, and one above the forbidden number
+abbrev pub most : ℤ
+most = pos 16000000
+
+abbrev pub least : ℤ
+least = negℤ (pos 16000000)
+
+abbrev pub tooGreat : ℤ
+tooGreat = pos 16000001
+
+abbrev pub tooLow : ℤ
+tooLow = negℤ (pos 16000001)
+
+abbrev pub nearForbidden : ℤ
+nearForbidden = negℤ (pos 2147483647)
 
 -- ---- the certificate of case 1, by the low byte of its weight, its partner byte, and the low byte of its value
 

@@ -55,7 +55,7 @@ recordOk j = not (j .idle) && (countOk (j .n) && (countOk (j .m) && leb (j .posi
 unfoldable pub sameTrees : JobRecord → List ℕ → List ℕ → Bool
 sameTrees j recorded found = eqb (j .n) (count recorded) && eqb (j .m) (count found)
 
--- 16: a work number at a vertex pair of this weight
+-- 16: a work number at a vertex pair of this weight; the range is that of paper 02, [2]
 unfoldable pub numberOk : Weight → ℤ → Bool
 numberOk none z = isForbidden z
 numberOk (some w) z = leZ (negℤ (pos weightLimit)) z && leZ z (pos ceiling)
@@ -116,7 +116,8 @@ advanceOf j table recorded found budget work =
     (record { job = advanced j (sliceCount j recorded found budget); answer = Advanced (sliceCount j recorded found budget) })
     (record { job = j; answer = advance.Refused (advanceItem j table recorded found work) })
 
--- the work numbers after it: from everything as lent, those from the position on that it counts, each from the numbers before it
+-- the work numbers after it, from everything as lent: from the position on as many are stored as it counts, each from the numbers before it, and
+-- none above the ceiling (`fill`)
 unfoldable pub advanceWork : JobRecord → List ℕ → List ℕ → List ℕ → ℕ → List ℤ → List ℤ
 advanceWork j table recorded found budget work =
     cond (eqb (advanceItem j table recorded found work) 0)

@@ -1,4 +1,4 @@
--- Paper 01 as definitions, and what paper 02 adds. This is the text that a reader must believe.
+-- Paper 01 as definitions, with what paper 02 adds and changes. This is the text that a reader must believe.
 pub mod Limits
 pub mod Bytes
 pub mod Weights

@@ -3,7 +3,7 @@
 use Prim.Native.Nat.{ℕ, _+_, _*_, _-_, _/_, _%_}
 use lib.IntN.{ℤ, negsuc}
 
--- a weight lies between -weightLimit and weightLimit, or is the forbidden number -2,147,483,648
+-- a weight is from -weightLimit to weightLimit, either end included, or is the forbidden number -2,147,483,648. Paper 02, [2]
 abbrev pub weightLimit : ℕ
 weightLimit = 16000000
 
@@ -33,11 +33,11 @@ noVertex = 255
 
 -- ---- what follows from them
 
--- the vertices and edges of a tree, 127 (64 and 63)
+-- the most vertices and edges of a tree, 127 (64 and 63)
 abbrev pub partLimit : ℕ
 partLimit = 2 * vertexLimit - 1
 
--- no stored value is greater: each of these of the greatest weight, 2,032,000,000
+-- no stored value is greater: the greatest weight for each of these, 2,032,000,000. Paper 02, [2]
 abbrev pub ceiling : ℕ
 ceiling = partLimit * weightLimit
 
@@ -45,7 +45,7 @@ ceiling = partLimit * weightLimit
 abbrev pub prefixLimit : ℕ
 prefixLimit = vertexLimit + 1
 
--- the pairs of a child of one vertex with a neighbour of another, 64
+-- the most pairs of a child of one vertex with a neighbour of another, 64
 abbrev pub pairLimit : ℕ
 pairLimit = degreeLimit * degreeLimit
 
@@ -56,8 +56,8 @@ widthLimit = 3 * vertexLimit - 2
 abbrev pub subproblemLimit : ℕ
 subproblemLimit = vertexLimit * widthLimit
 
--- no gain is greater, and so no dual that is written: a stored value plus the weight of an edge, 2,048,000,000 (a check takes any dual from 0 to
--- 2,147,483,647)
+-- the greatest stored value plus the greatest weight of an edge, 2,048,000,000. No gain of stored values is greater, and no dual that is written
+-- (theorem `dual-fits`); a certificate has four signed bytes for it. The check knows no limit of duals but these bytes
 abbrev pub dualLimit : ℕ
 dualLimit = ceiling + weightLimit
 

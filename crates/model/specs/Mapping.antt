@@ -89,7 +89,7 @@ allowed (some z) = true
 unfoldable pub parentMapped : List ℕ → List ℕ → ℕ → Bool
 parentMapped recorded p u = not (eqb u 0) && mapped p (parent recorded u)
 
--- the partner of u is a found vertex, that of no vertex before u, and the pair is allowed
+-- u is not mapped; or its partner is a found vertex, that of no vertex before u, and the pair is allowed
 unfoldable pub vertexOk : List ℕ → List ℕ → List ℕ → List ℕ → ℕ → Bool
 vertexOk table recorded found p u =
     not (mapped p u)

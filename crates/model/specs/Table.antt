@@ -1,4 +1,5 @@
--- The weight table: K vertex labels, L edge labels; rows are recorded labels, columns found ones. Items 1 and 2.
+-- The weight table: K vertex labels, L edge labels; rows are recorded labels, columns found ones. Items 1 and 2, the range of
+-- weights by paper 02, [2].
 -- Paper 01: table head, device row, line row; its device kinds are vertex labels here, its line kinds edge labels.
 use Prim.Native.Nat.{ℕ, _+_, _*_}
 use mathlib.Core.Bool.{Bool, _&&_, not}

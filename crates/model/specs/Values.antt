@@ -89,7 +89,7 @@ values table recorded found = tab (valueAt table recorded found) (subproblems re
 unfoldable pub recalled : List ℕ → List ℕ → List ℤ → ℕ → ℕ → ℕ → Weight
 recalled recorded found work u v s = weighed (getD work (index recorded found u v s) (pos 0))
 
--- as stored: the forbidden number for none, and the ceiling for a number above the ceiling
+-- as stored: the forbidden number for none, and the ceiling, which is that of paper 02, [2], for a number above it
 unfoldable pub clipped : Weight → ℤ
 clipped none = forbidden
 clipped (some z) = cond (ltZ (pos ceiling) z) (pos ceiling) z

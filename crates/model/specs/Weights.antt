@@ -1,5 +1,6 @@
--- A weight is forbidden or a number, so that nothing is ever added to the forbidden number. Paper 01, "Bytes of a table and a layout" and "The mapping".
-use Prim.Native.Nat.{ℕ, _≤_}
+-- A weight is forbidden or a number, so that nothing is ever added to the forbidden number. Paper 01, "Bytes of a table and a layout" and "The mapping";
+-- the range is that of paper 02, [2].
+use Prim.Native.Nat.{ℕ}
 use mathlib.Core.Bool.{Bool, false, cond, _&&_, _||_}
 use lib.Dec.{eqb}
 use lib.IntN.{ℤ, pos, negsuc, _+ℤ_, negℤ}
@@ -53,6 +54,6 @@ maxW (some a) (some b) = cond (leZ a b) (some b) (some a)
 abbrev pub gainOf : ℤ → ℤ → ℕ
 gainOf edge value = up (edge +ℤ value)
 
--- what is stored: the weight plus a natural total, and the ceiling where that is more
+-- what is stored: the weight plus a natural total, or the ceiling where the sum is more
 unfoldable pub stored : ℤ → ℕ → ℤ
 stored w total = cond (ltZ (pos ceiling) (w +ℤ pos total)) (pos ceiling) (w +ℤ pos total)

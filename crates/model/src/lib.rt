@@ -1,15 +1,15 @@
-//! The public constants and answers of the library. What the bytes, items and orders of paper 01 mean is in specs/, as definitions.
+//! The public constants and answers of the library. What the bytes, items and orders of the papers mean is in specs/, as definitions.
 
 ghost use mathlib.Core.Path.{_≡_};
 ghost use lib.IntN.{pos};
 ghost use Rattle.model.specs.Jobs.{freshRecord, totalLimit};
 ghost use Rattle.model.specs.Limits.{weightLimit, forbidden, ceiling, vertexLabelLimit, edgeLabelLimit, vertexLimit, degreeLimit, noVertex, prefixLimit, pairLimit, subproblemLimit};
 
-// The numbers that the paper fixes, and what follows from them. The definitions have the same in specs/Limits.antt (`weights` and `sizes` below).
+// The numbers that the papers fix, and what follows from them. The definitions have the same in specs/Limits.antt (`weights` and `sizes` below).
 pub struct Limits {}
 
 impl Limits {
-    // A weight lies between -WEIGHT and WEIGHT, or is FORBIDDEN.
+    // A weight is from -WEIGHT to WEIGHT, or is FORBIDDEN.
     pub const WEIGHT: i32 = 16000000;
 
     pub const FORBIDDEN: i32 = -2147483648;

@@ -70,7 +70,7 @@ module _ (table recorded found : List ℕ) (passes : inputItem table recorded fo
   pub quick-mapping : (p : List ℕ) → (mappingOk table recorded found p ≡ true) ↔ IsMapping table recorded found p
   quick-mapping = quick-test table recorded found tr tf
 
-  -- ---- 5. the empty mapping is a heaviest one where the largest value is 0
+  -- ---- 5. the empty mapping is a heaviest one where no value with s = v is above 0
 
   pub empty-heaviest : (given : ℕ → ℕ → ℕ → Weight) → Solves table recorded found given → largest recorded found given ≡ pos 0 → Heaviest table recorded found (replicate (count recorded) noVertex)
   empty-heaviest given S e = solves-heaviest table recorded found tr tf given S (replicate (count recorded) noVertex) .1 (empty-mapping .0, empty-mapping .1 ∙ sym e)
