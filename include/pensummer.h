@@ -44,6 +44,8 @@ extern "C" {
 #define PENSUMMER_EDGE_LABELS_MOST 8
 /* A weight is no greater, and no less than its negative, unless it is the forbidden number. */
 #define PENSUMMER_WEIGHT_MOST 16000000
+/* No value is greater and no mapping is heavier: the greatest weight for every vertex and edge of a tree. */
+#define PENSUMMER_VALUE_MOST ((2 * PENSUMMER_VERTICES_MOST - 1) * PENSUMMER_WEIGHT_MOST)
 /* The forbidden number, -2,147,483,648: the weight of a pair that no mapping may have, and its subproblems' value. It
  * is INT32_MIN, in a form that every C and C++ takes, in an #if too. */
 #define PENSUMMER_FORBIDDEN (-2147483647 - 1)
@@ -186,7 +188,7 @@ uint32_t pensummer_start(struct pensummer_job *job,
 
 /* Solves the smaller of `budget` and what is left. Tests 1 to 16. Fills exactly that many work numbers, from the
  * position on, each with its subproblem's value by the numbers before it, as lent or as this call has filled them, and
- * at most 2,032,000,000; adds the count to the position and to the total, which stops at 4,294,967,295. */
+ * at most PENSUMMER_VALUE_MOST; adds the count to the position and to the total, which stops at 4,294,967,295. */
 struct pensummer_advance_result pensummer_advance(struct pensummer_job *job,
                                                   const uint8_t *table, size_t table_len,
                                                   const uint8_t *recorded, size_t recorded_len,

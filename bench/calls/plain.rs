@@ -2,9 +2,9 @@
 //! subproblems in the order of paper 01, and reads a mapping out. Weights and neighbours stand in fixed arrays that are built once; the gains
 //! of a pair of vertices are built once for all choices of s. The matching is the textbook Hungarian method (row by row, potentials, slack array).
 
+use pensummer::{VALUE_MOST, WEIGHT_MOST};
+
 pub const FORBIDDEN: i32 = i32::MIN;
-const WEIGHT_MOST: i32 = 16_000_000;
-const VALUE_MOST: i32 = 127 * WEIGHT_MOST;
 pub const NONE: u8 = 255;
 const FAR: i64 = i64::MAX / 4;
 
@@ -379,7 +379,8 @@ pub fn fill(p: &Plan, work: &mut [i32], from: usize, to: usize) {
             } else {
                 gains(p, before, &kids[..k], v, &mut g);
                 for (o, x) in out.iter_mut().enumerate() {
-                    *x = w + matching(&g, k, d, if q + o == 0 { 8 } else { q + o - 1 }) as i32;
+                    let all = w as i64 + matching(&g, k, d, if q + o == 0 { 8 } else { q + o - 1 });
+                    *x = all.min(VALUE_MOST as i64) as i32;
                 }
             }
             v += 1;

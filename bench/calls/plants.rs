@@ -1,5 +1,7 @@
 //! Plants for the benchmark: a weight table and two trees of one shape and size, with random labels, as the bytes of paper 01.
 
+use pensummer::WEIGHT_MOST;
+
 pub struct Plant {
     pub table: Vec<u8>,
     pub recorded: Vec<u8>,
@@ -21,7 +23,7 @@ impl Random {
         if self.below(rare) == 0 {
             i32::MIN
         } else {
-            16 * (self.below(1_600_001) as i32 - 600_000)
+            WEIGHT_MOST - self.below(WEIGHT_MOST as usize / 5 * 8 + 1) as i32
         }
     }
 }

@@ -12,7 +12,7 @@ use Rattle.model.specs.Table.{tableSized, tableMarked, rowOk, weightsOk, tableI
 abbrev small : (head k l row : ℕ) → List ℕ → List ℕ
 small head k l row weight = 0xB1 ∷ head ∷ k ∷ l ∷ 0xB1 ∷ row ∷ (weight ++ (0xB1 ∷ 6 ∷ 0 ∷ 0 ∷ 0 ∷ 0 ∷ []))
 
--- 16,000,000; 16,000,001; their opposites; the forbidden number
+-- 16,000,000; 16,000,001; their opposites; the forbidden number; 12,345,678, which is out of range if its high byte comes first
 abbrev most : List ℕ
 most = 0x00 ∷ 0x24 ∷ 0xF4 ∷ 0x00 ∷ []
 
@@ -28,13 +28,16 @@ less = 0xFF ∷ 0xDB ∷ 0x0B ∷ 0xFF ∷ []
 abbrev never : List ℕ
 never = 0x00 ∷ 0x00 ∷ 0x00 ∷ 0x80 ∷ []
 
+abbrev ordered : List ℕ
+ordered = 0x4E ∷ 0x61 ∷ 0xBC ∷ 0x00 ∷ []
+
 -- a table, its item
 abbrev Gets : List ℕ → ℕ → Type 0
 Gets table k = tableItem table ≡ k
 
-accepted : Gets (small 4 1 1 5 most) 0 × (Gets (small 4 1 1 5 least) 0 × Gets (small 4 1 1 5 never) 0)
+accepted : Gets (small 4 1 1 5 most) 0 × (Gets (small 4 1 1 5 least) 0 × (Gets (small 4 1 1 5 never) 0 × Gets (small 4 1 1 5 ordered) 0))
 unfolding tableItem firstOf tableSized tableMarked weightsOk rowOk every weightOk isForbidden inRange signed32
-accepted = (refl, (refl, refl))
+accepted = (refl, (refl, (refl, refl)))
 
 out-of-range : Gets (small 4 1 1 5 more) 2 × Gets (small 4 1 1 5 less) 2
 unfolding tableItem firstOf tableSized tableMarked weightsOk rowOk every weightOk isForbidden inRange signed32

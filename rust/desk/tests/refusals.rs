@@ -23,6 +23,9 @@ const SENTENCES: [&str; 12] = [
     "a vertex of the found tree has more than 8 edges",
 ];
 
+/// What is said of a weight beyond the limits, before the weight.
+const RANGE: &str = "a weight is -16000000 to 16000000 or `forbidden`, not";
+
 /// A text that the library refuses by this item, and where and why, as `LINE:COLUMN: REASON`.
 fn refused(text: &str, item: usize, place: &str) {
     let folder = Folder::with(&[("p", text), ("c", "")]);
@@ -81,17 +84,15 @@ fn item_1_a_table_with_too_many_labels() {
 
 #[test]
 fn item_2_a_weight_beyond_the_limits() {
-    let rest = "a weight is -16000000 to 16000000 or `forbidden`, not";
-    refused("labels 1 1\nvertex 1\nedge 16000001\nrecorded 0\nfound 0\n", 2, &format!("3:6: {rest} 16000001"));
-    refused("labels 2 1\nvertex 1 1\nvertex 1   -16000001\nedge 20000000\nrecorded 0\nfound 0\n", 2, &format!("3:12: {rest} -16000001"));
+    refused("labels 1 1\nvertex 1\nedge 16000001\nrecorded 0\nfound 0\n", 2, &format!("3:6: {RANGE} 16000001"));
+    refused("labels 2 1\nvertex 1 1\nvertex 1   -16000001\nedge 20000000\nrecorded 0\nfound 0\n", 2, &format!("3:12: {RANGE} -16000001"));
 }
 
 #[test]
 fn item_2_a_short_weight_beyond_the_limits_is_placed_where_it_stands() {
-    let rest = "a weight is -16000000 to 16000000 or `forbidden`, not";
-    refused("labels 2 1\nvertex-default 70000000\nedge 1\nrecorded 0\nfound 0\n", 2, &format!("2:16: {rest} 70000000"));
+    refused("labels 2 1\nvertex-default 70000000\nedge 1\nrecorded 0\nfound 0\n", 2, &format!("2:16: {RANGE} 70000000"));
     let pair = "labels 2 1\nvertex-default 1\nvertex-pair 1 0 70000000\nedge 1\nrecorded 0\nfound 0\n";
-    refused(pair, 2, &format!("3:17: {rest} 70000000"));
+    refused(pair, 2, &format!("3:17: {RANGE} 70000000"));
 }
 
 #[test]
@@ -174,7 +175,7 @@ fn items_7_and_12_a_vertex_with_a_name_and_nine_edges() {
 fn the_first_item_that_applies_is_the_one_that_is_said() {
     // a loop, nine edges, an unknown label in the found tree, and a weight
     let text = format!("labels 1 1\nvertex 16000001\nedge 1\n{}found 7\n", nine("recorded").replace("0-8", "0-1"));
-    refused(&text, 2, "2:8: a weight is -16000000 to 16000000 or `forbidden`, not 16000001");
+    refused(&text, 2, &format!("2:8: {RANGE} 16000001"));
     refused(&text.replace("16000001", "1"), 6, "5:29: the edge 0-1 closes a loop");
 }
 
@@ -212,9 +213,8 @@ fn the_place_in_bytes_is_an_offset() {
 fn a_weight_in_bytes_is_placed_at_its_first_byte() {
     let folder = Folder::with(&[("p", "labels 2 1\nvertex 1 1\nvertex 1 16000001\nedge 1\nrecorded 0\nfound 0\n")]);
     assert_eq!(folder.run(&["plant", "p", "-o", "b"]), said("", "", 0));
-    let message = "pensummer: refused 2: a weight of the table is out of range and not the forbidden number\n\
-                   b: byte 20: a weight is -16000000 to 16000000 or `forbidden`, not 16000001\n";
-    assert_eq!(folder.run(&["match", "b"]), said("", message, 1));
+    let message = format!("pensummer: refused 2: {}\nb: byte 20: {RANGE} 16000001\n", SENTENCES[1]);
+    assert_eq!(folder.run(&["match", "b"]), said("", &message, 1));
 }
 
 #[test]

@@ -32,6 +32,8 @@ pub const VERTEX_LABELS_MOST: usize = 32;
 pub const EDGE_LABELS_MOST: usize = 8;
 /// A weight is no greater, and no less than the negative of this, unless it is [`FORBIDDEN`].
 pub const WEIGHT_MOST: i32 = 16_000_000;
+/// No value is greater and no mapping is heavier: the greatest weight for every vertex and edge of a tree.
+pub const VALUE_MOST: i32 = (2 * VERTICES_MOST as i32 - 1) * WEIGHT_MOST;
 /// The weight of a pair that no mapping may have.
 pub const FORBIDDEN: i32 = i32::MIN;
 /// The partner of a vertex without one.

@@ -18,12 +18,13 @@ const ITEMS: [(&str, Refusal); 24] = named! {
     CERTIFICATE_SHORT CERTIFICATE_FORM CERTIFICATE_MAPPING CERTIFICATE_WEIGHT CERTIFICATE_RECORD CERTIFICATE_ANSWER
 };
 
-const LIMITS: [(&str, i64); 11] = [
+const LIMITS: [(&str, i64); 12] = [
     ("VERTICES_MOST", pensummer::VERTICES_MOST as i64),
     ("DEGREE_MOST", pensummer::DEGREE_MOST as i64),
     ("VERTEX_LABELS_MOST", pensummer::VERTEX_LABELS_MOST as i64),
     ("EDGE_LABELS_MOST", pensummer::EDGE_LABELS_MOST as i64),
     ("WEIGHT_MOST", pensummer::WEIGHT_MOST as i64),
+    ("VALUE_MOST", pensummer::VALUE_MOST as i64),
     ("FORBIDDEN", pensummer::FORBIDDEN as i64),
     ("NONE", pensummer::NONE as i64),
     ("TABLE_MOST", pensummer::TABLE_MOST as i64),
@@ -166,6 +167,43 @@ fn format_items() {
     for (row, (name, item)) in rows.iter().zip(ITEMS) {
         let start = format!("| {} | `PENSUMMER_{name}` | `Refusal::{name}` | {} | ", item.number(), item.sentence());
         assert!(row.starts_with(&start), "{row}\nnot\n{start}");
+    }
+}
+
+/// A number as the texts write it, in groups of three digits.
+fn grouped(number: i64) -> String {
+    let digits = number.abs().to_string();
+    let groups: Vec<&str> = digits.as_bytes().rchunks(3).rev().map(|group| std::str::from_utf8(group).unwrap()).collect();
+    groups.join(",")
+}
+
+/// Each row of docs/FORMAT.md on the limits has the numbers of the constants that it names.
+#[test]
+fn format_limits() {
+    let format = text("docs/FORMAT.md");
+    let rows: Vec<&str> = format.lines().filter(|line| line.starts_with("| ") && line.contains("_MOST`")).collect();
+    for (name, value) in LIMITS.into_iter().filter(|(name, _)| name.ends_with("_MOST")) {
+        let row = rows.iter().find(|row| row.contains(&format!("`PENSUMMER_{name}`"))).expect(name);
+        let number = grouped(value);
+        assert!(row.split(' ').any(|word| word.trim_end_matches(',') == number), "{name}, {number}: {row}");
+    }
+}
+
+/// What the texts for callers say of a million or more is a limit of today and no earlier one: of weights, values, numbers of 32 bits, and of the
+/// program's text files.
+#[test]
+fn great_numbers() {
+    let forbidden = pensummer::FORBIDDEN as i64;
+    let known =
+        [pensummer::WEIGHT_MOST as i64, pensummer::VALUE_MOST as i64, forbidden, forbidden + 1, u32::MAX as i64, 1 << 20].map(grouped);
+    for name in ["include/pensummer.h", "docs/FORMAT.md", "README.md"] {
+        let text = text(name);
+        let words = text.split(|c: char| !c.is_ascii_digit() && c != ',').map(|word| word.trim_matches(','));
+        let great: Vec<&str> = words.filter(|word| word.matches(',').count() > 1).collect();
+        assert!(!great.is_empty() || name == "README.md", "{name}");
+        for number in great {
+            assert!(known.iter().any(|one| one == number), "{name}: {number}");
+        }
     }
 }
 

@@ -256,6 +256,25 @@ pub fn finish(job: &Job, inputs: &Inputs, work: &[i32], mapping_room: usize, ran
     }
 }
 
+/// A job in slices of about so many, over exactly the work numbers wanted. Its counts must add up to the subproblems; a finish must be refused by 17
+/// before that and not after, and a further advance must count nothing. Gives back the record and the work numbers at the end.
+pub fn in_slices(inputs: &Inputs, slice: usize, random: &mut Random) -> (Job, Vec<i32>) {
+    let sizes = sizes(inputs).expect("an accepted plant");
+    let mapping = inputs.recorded[2] as usize;
+    let (mut job, mut counted) = (Job::fresh(), 0);
+    let mut work: Vec<i32> = (0..sizes.work).map(|_| random.number()).collect();
+    start(&mut job, inputs, &work, random).expect("a start");
+    while counted < sizes.subproblems {
+        assert_eq!(finish(&job, inputs, &work, mapping, random), Err(17), "{counted} of {sizes:?}{inputs:?}");
+        let budget = random.below(2 * slice) as u32;
+        counted += advance(&mut job, inputs, budget, &mut work, random).expect("an advance");
+    }
+    assert_eq!(counted, sizes.subproblems, "{inputs:?}");
+    finish(&job, inputs, &work, mapping, random).expect("a finish");
+    assert_eq!(advance(&mut job, inputs, u32::MAX, &mut work, random), Ok(0), "{inputs:?}");
+    (job, work)
+}
+
 /// Writing a certificate: items 1 to 13 and 19. It must have the values of the subproblems, and both checks must accept it. Gives back the
 /// refusal, or the certificate.
 pub fn write(inputs: &Inputs, work_room: usize, certificate_room: usize, random: &mut Random) -> Result<Vec<u8>, u32> {

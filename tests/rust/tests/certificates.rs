@@ -259,7 +259,7 @@ fn amount(random: &mut Random) -> i64 {
     match random.below(6) {
         0 | 1 => 1,
         2 => random.between(1, 9),
-        3 => random.between(1, 2_000_000),
+        3 => random.between(1, 2 * i64::from(WEIGHT_MOST)),
         4 => *random.pick(&[VALUE_MOST.into(), 1 << 30, (1 << 31) - 1, 1 << 31, (1 << 32) - 1]),
         _ => random.between(1, 1 << 31),
     }
@@ -354,24 +354,25 @@ fn forged_weights_and_duals() {
 #[test]
 fn forged_at_the_extremes() {
     let mut random = Random::of_test("forged_at_the_extremes");
-    let (small, large) = (small_shapes(), large_shapes(&mut random));
-    let mut tally = Tally::new("forged at the extremes");
-    // weights at their limits: values and duals are as large as they get, and what is added to them goes past 32 bits
-    let mut look = |recorded: &Shape, found: &Shape, forgeries: usize, tally: &mut Tally| {
-        let weights = (*random.pick(&EXTREMES), *random.pick(&EXTREMES));
-        let written = Written::of(plants::weighted(recorded, found, (2, 2), weights, &mut random), &mut random);
-        for _ in 0..forgeries {
+    // a tree of 64 vertices with itself under the greatest weights: values and duals are as great as they get, and what is added goes past 32 bits
+    let mut tally = Tally::new("forged at the greatest weights");
+    for (_, shape) in large_shapes(&mut random) {
+        let written = Written::of(plants::weighted(&shape, &shape, (2, 2), (Weights::Most, Weights::Most), &mut random), &mut random);
+        assert_eq!(number_at(&written.certificate, 4), VALUE_MOST);
+        for _ in 0..300 {
             tally.add(&written, &forge(&written, &mut random));
         }
-    };
-    for _ in 0..6 {
-        for (_, shape) in &large {
-            look(shape, shape, 40, &mut tally);
-        }
     }
-    let mut shapes = Random::of_test("forged_at_the_extremes, shapes");
+    tally.report(1_500, &[0, 21, 22, 23, 24]);
+    let shapes = small_shapes();
+    let mut tally = Tally::new("forged at the limits of weights");
     while tally.count < 40_000 {
-        look(shapes.pick(&small), shapes.pick(&small), 40, &mut tally);
+        let (recorded, found) = (random.pick(&shapes).clone(), random.pick(&shapes).clone());
+        let weights = (*random.pick(&EXTREMES), *random.pick(&EXTREMES));
+        let written = Written::of(plants::weighted(&recorded, &found, (2, 2), weights, &mut random), &mut random);
+        for _ in 0..40 {
+            tally.add(&written, &forge(&written, &mut random));
+        }
     }
     tally.report(40_000, &[0, 21, 22, 23, 24]);
 }

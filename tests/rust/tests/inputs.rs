@@ -267,11 +267,7 @@ fn largest_inputs_cut_off_and_damaged() {
     let mut tally = Tally::new();
     for (_, shape) in &shapes {
         let found = &random.pick(&shapes).1;
-        let inputs = Inputs {
-            table: plants::table(32, 8, Weights::Wide, Weights::Wide, &mut random),
-            recorded: plants::tree(shape, 32, 8, &mut random),
-            found: plants::tree(found, 32, 8, &mut random),
-        };
+        let inputs = plants::weighted(shape, found, (32, 8), (Weights::Wide, Weights::Wide), &mut random);
         let lending = lending(&inputs, &mut random);
         for which in 0..3 {
             let length = part(&mut inputs.clone(), which).len();

@@ -20,23 +20,10 @@ fn large(recorded: &Shape, found: &Shape, vertex: Weights, edge: Weights, random
     plants::weighted(recorded, found, labels, (vertex, edge), random)
 }
 
-/// A job from its start until all is solved, in slices of fewer subproblems than this; its record, its work numbers and the count of slices.
-fn in_slices(inputs: &Inputs, most: usize, random: &mut Random) -> (Job, Vec<i32>, usize) {
-    let mut job = Job::fresh();
-    let mut work: Vec<i32> = (0..wanted(inputs)).map(|_| random.number()).collect();
-    compare::start(&mut job, inputs, &work, random).expect("a start");
-    let mut slices = 0;
-    while (job.position as usize) < work.len() {
-        compare::advance(&mut job, inputs, random.below(most) as u32, &mut work, random).expect("an advance");
-        slices += 1;
-    }
-    (job, work, slices)
-}
-
 #[test]
 fn plants_of_middle_size() {
     let mut random = Random::of_test("plants_of_middle_size");
-    let (mut tried, mut slices, mut damaged, mut refusals) = (0, 0, 0, [0; 25]);
+    let (mut tried, mut damaged, mut refusals) = (0, 0, [0; 25]);
     for _ in 0..1_500 {
         // up to 20 vertices a side, sometimes one side up to 64; matchings of up to 8 children with 8 neighbours
         let (n, m) = match random.below(10) {
@@ -50,8 +37,7 @@ fn plants_of_middle_size() {
         let sizes = compare::sizes(&inputs).expect("an accepted plant");
         let (values, length) = (sizes.work, sizes.certificate);
         compare::match_trees(&inputs, values + random.below(2), n + random.below(2), &mut random).expect("a match");
-        let (job, work, count) = in_slices(&inputs, values / 2 + 2, &mut random);
-        slices += count;
+        let (job, work) = compare::in_slices(&inputs, values / 4 + 1, &mut random);
         assert_eq!(compare::finish(&job, &inputs, &work, n, &mut random), Ok(solved.weight), "{inputs:?}");
         let written = compare::write(&inputs, values, length + random.below(2), &mut random).expect("a written certificate");
         let records = certificate::records(&solved.plant, &solved.order);
@@ -65,7 +51,7 @@ fn plants_of_middle_size() {
         }
         tried += 1;
     }
-    println!("{tried} plants, {slices} slices, {damaged} damaged certificates with the numbers {refusals:?}");
+    println!("{tried} plants, {damaged} damaged certificates with the numbers {refusals:?}");
 }
 
 #[test]
@@ -99,7 +85,7 @@ fn every_kind_of_weights() {
             let weight = Solved::read(&inputs).unwrap().weight;
             match weights {
                 // a tree with itself: everything is mapped
-                Weights::Most => assert_eq!(weight, 2_032_000_000, "{name}"),
+                Weights::Most => assert_eq!(weight, VALUE_MOST, "{name}"),
                 Weights::One => assert_eq!(weight, 127, "{name}"),
                 Weights::Forbidden | Weights::Least | Weights::Zero => assert_eq!(weight, 0, "{name}"),
                 _ => {}
@@ -114,7 +100,7 @@ fn every_kind_of_weights() {
             tried += 1;
         }
     }
-    assert_eq!(heaviest, 2_032_000_000);
+    assert_eq!(heaviest, VALUE_MOST);
     println!("{tried} plants");
 }
 
@@ -129,7 +115,7 @@ fn the_greatest_and_the_least_weights() {
             inputs.found.clone_from(&inputs.recorded);
             let mapping = compare::match_trees(&inputs, wanted(&inputs), 64, &mut random).expect("a match");
             assert_eq!(mapping.iter().filter(|&&partner| partner != NONE).count(), mapped, "{name}");
-            let (job, work, _) = in_slices(&inputs, 3_000, &mut random);
+            let (job, work) = compare::in_slices(&inputs, 1_500, &mut random);
             assert_eq!(compare::finish(&job, &inputs, &work, 64, &mut random), Ok(heaviest), "{name}");
             // compare::write has both checks accept it
             let length = compare::sizes(&inputs).expect("an accepted plant").certificate;
@@ -141,6 +127,29 @@ fn the_greatest_and_the_least_weights() {
 }
 
 #[test]
+fn the_lightest_mapping() {
+    let mut random = Random::of_test("the_lightest_mapping");
+    let (_, path) = &large_shapes(&mut random)[0];
+    let mut inputs = large(path, path, Weights::Least, Weights::Least, &mut random);
+    inputs.found.clone_from(&inputs.recorded);
+    let solved = Solved::read(&inputs).expect("an accepted plant");
+    let (n, m, position) = (64, 64, solved.values.len() as u32);
+    // over numbers as great as they may be, and that of the pair (0, 0) the greatest, a finish maps the path on itself
+    let mut work = vec![VALUE_MOST - 1; solved.values.len()];
+    work[solved.order.place(&solved.plant, 0, 0, 0)] = VALUE_MOST;
+    let job = Job { idle: 0, n, m, position, total: 0 };
+    assert_eq!(compare::finish(&job, &inputs, &work, 64, &mut random), Ok(-2_032_000_000));
+    // such a mapping with its weight is only not heaviest, and with another weight it is refused for that
+    let sizes = compare::sizes(&inputs).expect("an accepted plant");
+    let mut bytes = compare::write(&inputs, sizes.work, sizes.certificate, &mut random).expect("a written certificate");
+    (0..64).for_each(|u| bytes[certificate::HEAD + certificate::PARTNER * u + 2] = u as u8);
+    for (weight, item) in [(-2_032_000_000, 24), (-2_031_999_999, 22), (-2_032_000_001, 22), (i32::MIN, 22), (2_032_000_000, 22)] {
+        bytes[4..8].copy_from_slice(&i32::to_le_bytes(weight));
+        assert_eq!(compare::check(&inputs, &bytes), item, "{weight}");
+    }
+}
+
+#[test]
 fn jobs_in_slices() {
     let mut random = Random::of_test("large jobs_in_slices");
     let shapes = large_shapes(&mut random);
@@ -149,7 +158,7 @@ fn jobs_in_slices() {
         let found = &random.pick(&shapes).1;
         let inputs = large(shape, found, Weights::Wide, Weights::SmallForbidden, &mut random);
         let solved = Solved::read(&inputs).expect("an accepted plant");
-        let (job, mut work, _) = in_slices(&inputs, 1_500, &mut random);
+        let (job, mut work) = compare::in_slices(&inputs, 750, &mut random);
         assert_eq!(job, Job { idle: 0, n: 64, m: 64, position: 12_160, total: 12_160 });
         assert_eq!(work, solved.values);
         assert_eq!(compare::finish(&job, &inputs, &work, 64, &mut random), Ok(solved.weight));

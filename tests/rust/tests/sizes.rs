@@ -8,30 +8,11 @@ use pensummer_tests::plants::{self, small_shapes, Weights};
 use pensummer_tests::random::Random;
 use pensummer_tests::reading::{table_bytes, tree_bytes, Inputs, WEIGHT_MOST};
 
-/// Runs a job in slices over exactly the work numbers wanted. Its counts must add up to the subproblems; a finish must be refused by 17 before
-/// that and not after, and a further advance must count nothing. Gives back the record and the work numbers at the end.
-fn in_slices(inputs: &Inputs, random: &mut Random) -> (Job, Vec<i32>) {
-    let sizes = compare::sizes(inputs).expect("an accepted plant");
-    let mapping = inputs.recorded[2] as usize;
-    let (mut job, mut counted) = (Job::fresh(), 0);
-    let mut work: Vec<i32> = (0..sizes.work).map(|_| random.number()).collect();
-    compare::start(&mut job, inputs, &work, random).expect("a start");
-    let slice = 1 + random.below(sizes.work);
-    while counted < sizes.subproblems {
-        assert_eq!(compare::finish(&job, inputs, &work, mapping, random), Err(17), "{counted} of {sizes:?}{inputs:?}");
-        let budget = random.below(2 * slice) as u32;
-        counted += compare::advance(&mut job, inputs, budget, &mut work, random).expect("an advance");
-    }
-    assert_eq!(counted, sizes.subproblems, "{inputs:?}");
-    compare::finish(&job, inputs, &work, mapping, random).expect("a finish");
-    assert_eq!(compare::advance(&mut job, inputs, u32::MAX, &mut work, random), Ok(0), "{inputs:?}");
-    (job, work)
-}
-
 /// Lends every call exactly what is wanted, and then one work number or one byte less.
 fn exactly_and_one_less(inputs: &Inputs, random: &mut Random) {
     let sizes = compare::sizes(inputs).expect("an accepted plant");
-    let (job, work) = in_slices(inputs, random);
+    let slice = 1 + random.below(sizes.work);
+    let (job, work) = compare::in_slices(inputs, slice, random);
     let certificate = compare::write(inputs, sizes.work, sizes.certificate, random).expect("a written certificate");
     assert_eq!(certificate.len(), sizes.certificate, "{inputs:?}");
     let exact =
