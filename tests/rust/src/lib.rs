@@ -1,5 +1,5 @@
-//! Tests of the library's calls, through the crate `pensummer`. What judges them is an independent reading of paper 01, written from the
-//! paper's words alone: none of it comes from the definitions, the proofs or the code under test.
+//! Tests of the library's calls, through the crate `pensummer`. What judges them is an independent reading of paper 01 and of [1] and [2] of
+//! paper 02, written from the papers' words alone: none of it comes from the definitions, the proofs or the code under test.
 //!
 //! The paper's words: layout = tree, device = vertex, line = edge, kind = label, sheet = certificate, bound = dual, allowance = budget.
 
