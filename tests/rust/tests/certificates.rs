@@ -60,6 +60,13 @@ impl Tally {
         }
     }
 
+    /// The same of so many forged ones.
+    fn add_forged(&mut self, written: &Written, count: usize, random: &mut Random) {
+        for _ in 0..count {
+            self.add(written, &forge(written, random));
+        }
+    }
+
     /// At least so many, and each of these numbers among them.
     fn report(&self, least: usize, numbers: &[usize]) {
         println!(
@@ -344,9 +351,7 @@ fn forged_weights_and_duals() {
     let mut tally = Tally::new("forged weights and duals");
     while tally.count < 80_000 {
         let written = Written::small(&shapes, &mut random);
-        for _ in 0..40 {
-            tally.add(&written, &forge(&written, &mut random));
-        }
+        tally.add_forged(&written, 40, &mut random);
     }
     tally.report(80_000, &[0, 21, 22, 23, 24]);
 }
@@ -359,9 +364,7 @@ fn forged_at_the_extremes() {
     for (_, shape) in large_shapes(&mut random) {
         let written = Written::of(plants::weighted(&shape, &shape, (2, 2), (Weights::Most, Weights::Most), &mut random), &mut random);
         assert_eq!(number_at(&written.certificate, 4), VALUE_MOST);
-        for _ in 0..300 {
-            tally.add(&written, &forge(&written, &mut random));
-        }
+        tally.add_forged(&written, 300, &mut random);
     }
     tally.report(1_500, &[0, 21, 22, 23, 24]);
     let shapes = small_shapes();
@@ -370,9 +373,7 @@ fn forged_at_the_extremes() {
         let (recorded, found) = (random.pick(&shapes).clone(), random.pick(&shapes).clone());
         let weights = (*random.pick(&EXTREMES), *random.pick(&EXTREMES));
         let written = Written::of(plants::weighted(&recorded, &found, (2, 2), weights, &mut random), &mut random);
-        for _ in 0..40 {
-            tally.add(&written, &forge(&written, &mut random));
-        }
+        tally.add_forged(&written, 40, &mut random);
     }
     tally.report(40_000, &[0, 21, 22, 23, 24]);
 }

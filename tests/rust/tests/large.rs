@@ -20,6 +20,12 @@ fn large(recorded: &Shape, found: &Shape, vertex: Weights, edge: Weights, random
     plants::weighted(recorded, found, labels, (vertex, edge), random)
 }
 
+/// A tree recorded and found again, with this kind of weights alone.
+fn with_itself(shape: &Shape, weights: Weights, random: &mut Random) -> Inputs {
+    let inputs = large(shape, shape, weights, weights, random);
+    Inputs { found: inputs.recorded.clone(), ..inputs }
+}
+
 #[test]
 fn plants_of_middle_size() {
     let mut random = Random::of_test("plants_of_middle_size");
@@ -109,10 +115,9 @@ fn the_greatest_and_the_least_weights() {
     let mut random = Random::of_test("the_greatest_and_the_least_weights");
     let shapes = large_shapes(&mut random);
     for (name, shape) in &shapes {
-        // a tree with itself: everything is mapped, or nothing
+        // everything is mapped, or nothing
         for (weights, heaviest, mapped) in [(Weights::Most, 2_032_000_000, 64), (Weights::Least, 0, 0)] {
-            let mut inputs = large(shape, shape, weights, weights, &mut random);
-            inputs.found.clone_from(&inputs.recorded);
+            let inputs = with_itself(shape, weights, &mut random);
             let mapping = compare::match_trees(&inputs, wanted(&inputs), 64, &mut random).expect("a match");
             assert_eq!(mapping.iter().filter(|&&partner| partner != NONE).count(), mapped, "{name}");
             let (job, work) = compare::in_slices(&inputs, 1_500, &mut random);
@@ -130,8 +135,7 @@ fn the_greatest_and_the_least_weights() {
 fn the_lightest_mapping() {
     let mut random = Random::of_test("the_lightest_mapping");
     let (_, path) = &large_shapes(&mut random)[0];
-    let mut inputs = large(path, path, Weights::Least, Weights::Least, &mut random);
-    inputs.found.clone_from(&inputs.recorded);
+    let inputs = with_itself(path, Weights::Least, &mut random);
     let solved = Solved::read(&inputs).expect("an accepted plant");
     let (n, m, position) = (64, 64, solved.values.len() as u32);
     // over numbers as great as they may be, and that of the pair (0, 0) the greatest, a finish maps the path on itself
