@@ -1,7 +1,6 @@
 //! How much to lend: the three numbers against a count, and what they are good for. Every call is lent exactly so much, and one less; the counts
 //! of jobs in slices are added up; every refusal comes up alone and together with every other.
 
-use pensummer::Job;
 use pensummer_tests::certificate;
 use pensummer_tests::compare::{self, every_call, Lending};
 use pensummer_tests::plants::{self, small_shapes, Weights};
