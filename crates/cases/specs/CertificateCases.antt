@@ -59,6 +59,10 @@ certificateEnds w p x own other = certificateOf 1 3 w (p ∷ []) (
     ∷ (x ∷ pos 0 ∷ []) ∷ (x ∷ [])
     ∷ [])
 
+-- its row, where every pair weighs w
+abbrev atEnds : ℕ → ℤ → List ℕ → ℕ → Row
+atEnds k w certificate item = plant k (tableOne w w) (path (0 ∷ [])) (path (0 ∷ 0 ∷ 0 ∷ [])) (checked certificate item)
+
 abbrev pub certificates : List Row
 certificates =
     plant 1 table8 (star (0 ∷ 1 ∷ 2 ∷ [])) (star (0 ∷ 1 ∷ 2 ∷ [])) (checked (certificate8 (pos 13) 2 1 (pos 4) (pos 3)) 0)
@@ -70,15 +74,15 @@ certificates =
     -- a lighter mapping with its own weight
     ∷ plant 6 table8 (star (0 ∷ 1 ∷ 2 ∷ [])) (star (0 ∷ 1 ∷ 2 ∷ [])) (checked (certificate8 (pos 10) 1 2 (pos 4) (pos 3)) 24)
     -- the greatest weight: right; one more in the head, in a value
-    ∷ plant 7 (tableOne most most) (path (0 ∷ [])) (path (0 ∷ 0 ∷ 0 ∷ [])) (checked (certificateEnds most 2 most (most ∷ pos 0 ∷ pos 0 ∷ []) (most ∷ pos 0 ∷ [])) 0)
-    ∷ plant 8 (tableOne most most) (path (0 ∷ [])) (path (0 ∷ 0 ∷ 0 ∷ [])) (checked (certificateEnds tooGreat 2 most (most ∷ pos 0 ∷ pos 0 ∷ []) (most ∷ pos 0 ∷ [])) 22)
-    ∷ plant 9 (tableOne most most) (path (0 ∷ [])) (path (0 ∷ 0 ∷ 0 ∷ [])) (checked (certificateEnds most 2 most (most ∷ pos 0 ∷ pos 0 ∷ []) (tooGreat ∷ pos 0 ∷ [])) 23)
+    ∷ atEnds 7 most (certificateEnds most 2 most (most ∷ pos 0 ∷ pos 0 ∷ []) (most ∷ pos 0 ∷ [])) 0
+    ∷ atEnds 8 most (certificateEnds tooGreat 2 most (most ∷ pos 0 ∷ pos 0 ∷ []) (most ∷ pos 0 ∷ [])) 22
+    ∷ atEnds 9 most (certificateEnds most 2 most (most ∷ pos 0 ∷ pos 0 ∷ []) (tooGreat ∷ pos 0 ∷ [])) 23
     -- the least: the empty mapping; the greatest dual that 4 bytes hold, with the sum as value; the same where item 24 looks; one below 0
-    ∷ plant 10 (tableOne least least) (path (0 ∷ [])) (path (0 ∷ 0 ∷ 0 ∷ [])) (checked (certificateEnds (pos 0) 255 least (least ∷ pos 0 ∷ pos 0 ∷ []) (pos 2131483647 ∷ pos 2147483647 ∷ [])) 0)
-    ∷ plant 11 (tableOne least least) (path (0 ∷ [])) (path (0 ∷ 0 ∷ 0 ∷ [])) (checked (certificateEnds (pos 0) 255 least (pos 2131483647 ∷ pos 2147483647 ∷ pos 0 ∷ []) (least ∷ pos 0 ∷ [])) 24)
-    ∷ plant 12 (tableOne least least) (path (0 ∷ [])) (path (0 ∷ 0 ∷ 0 ∷ [])) (checked (certificateEnds (pos 0) 255 least (least ∷ pos 0 ∷ pos 0 ∷ []) (tooLow ∷ negsuc 0 ∷ [])) 23)
+    ∷ atEnds 10 least (certificateEnds (pos 0) 255 least (least ∷ pos 0 ∷ pos 0 ∷ []) (pos 2131483647 ∷ pos 2147483647 ∷ [])) 0
+    ∷ atEnds 11 least (certificateEnds (pos 0) 255 least (pos 2131483647 ∷ pos 2147483647 ∷ pos 0 ∷ []) (least ∷ pos 0 ∷ [])) 24
+    ∷ atEnds 12 least (certificateEnds (pos 0) 255 least (least ∷ pos 0 ∷ pos 0 ∷ []) (tooLow ∷ negsuc 0 ∷ [])) 23
     -- a sum of 2 duals and a weight that is right but for 2 ^ 32
-    ∷ plant 13 (tableOne least least) (path (0 ∷ [])) (path (0 ∷ 0 ∷ 0 ∷ [])) (checked (certificateEnds (pos 0) 255 least (negℤ (pos 16000002) ∷ pos 2147483647 ∷ pos 2147483647 ∷ []) (least ∷ pos 0 ∷ [])) 23)
+    ∷ atEnds 13 least (certificateEnds (pos 0) 255 least (negℤ (pos 16000002) ∷ pos 2147483647 ∷ pos 2147483647 ∷ []) (least ∷ pos 0 ∷ [])) 23
     ∷ []
 
 pub certificate-cases : All certificates

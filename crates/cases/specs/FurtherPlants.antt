@@ -3,7 +3,7 @@
 use mathlib.Core.Path.{refl}
 use mathlib.Core.List.{List, [], _∷_}
 use Prim.Native.Nat.{ℕ}
-use lib.IntN.{pos, negsuc}
+use lib.IntN.{ℤ, pos, negsuc}
 use Rattle.foundations.specs.Counting.{cnt}
 use Rattle.foundations.specs.Lists.{every, below, cat}
 use Rattle.foundations.specs.Members.{mem, del}
@@ -32,6 +32,10 @@ tableLow = tableOf ((pos 5 ∷ forbidden ∷ []) ∷ (forbidden ∷ forbidden �
 unfoldable pub tableUneven : List ℕ
 tableUneven = tableOf ((pos 0 ∷ pos 7 ∷ []) ∷ (pos 2 ∷ pos 0 ∷ []) ∷ []) ((pos 0 ∷ []) ∷ [])
 
+-- one vertex each, under a table that item 2 refuses
+abbrev outOfRange : ℕ → ℤ → ℤ → Row
+outOfRange k v e = plant k (tableOne v e) (path (0 ∷ [])) (path (0 ∷ [])) (refused 2)
+
 abbrev pub furtherPlants : List Row
 furtherPlants =
     -- full: the child pair weighs -1, and 4 is the wrong answer
@@ -47,12 +51,12 @@ furtherPlants =
     ∷ plant 7 (tableOne least least) (path (0 ∷ 0 ∷ [])) (path (0 ∷ 0 ∷ [])) (weighs (pos 0) (255 ∷ 255 ∷ []))
     ∷ plant 8 (tableOne forbidden forbidden) (path (0 ∷ 0 ∷ [])) (path (0 ∷ 0 ∷ [])) (weighs (pos 0) (255 ∷ 255 ∷ []))
     -- item 2: one beyond either limit, one above the forbidden number, of vertices and of edges
-    ∷ plant 9 (tableOne tooGreat most) (path (0 ∷ [])) (path (0 ∷ [])) (refused 2)
-    ∷ plant 10 (tableOne most tooGreat) (path (0 ∷ [])) (path (0 ∷ [])) (refused 2)
-    ∷ plant 11 (tableOne tooLow least) (path (0 ∷ [])) (path (0 ∷ [])) (refused 2)
-    ∷ plant 12 (tableOne least tooLow) (path (0 ∷ [])) (path (0 ∷ [])) (refused 2)
-    ∷ plant 13 (tableOne nearForbidden forbidden) (path (0 ∷ [])) (path (0 ∷ [])) (refused 2)
-    ∷ plant 14 (tableOne forbidden nearForbidden) (path (0 ∷ [])) (path (0 ∷ [])) (refused 2)
+    ∷ outOfRange 9 tooGreat most
+    ∷ outOfRange 10 most tooGreat
+    ∷ outOfRange 11 tooLow least
+    ∷ outOfRange 12 least tooLow
+    ∷ outOfRange 13 nearForbidden forbidden
+    ∷ outOfRange 14 forbidden nearForbidden
     ∷ []
 
 pub further-plants : All furtherPlants

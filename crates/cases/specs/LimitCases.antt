@@ -5,7 +5,7 @@ use mathlib.Core.Bool.{true, false}
 use Prim.Native.Nat.{_≤_}
 use native.Mathlib.Omega.{arith}
 use lib.IntN.{ℤ, pos, negℤ}
-use Rattle.model.specs.Limits.{weightLimit, ceiling, dualLimit, forbidden, forbiddenRank}
+use Rattle.model.specs.Limits.{weightLimit, ceiling, dualLimit, forbidden}
 use Rattle.model.specs.Weights.{none, some, isForbidden, stored}
 use Rattle.model.specs.Jobs.{numberOk}
 use Rattle.model.specs.Values.{clipped}
