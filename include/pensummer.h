@@ -6,13 +6,15 @@
  * Every buffer is a pointer and a count of elements. No pointer is null, not even for a count of 0, and each is aligned
  * for its type; the same holds for a job's record. All of it is initialised, and no one else writes to it during a
  * call. What a call writes overlaps nothing else that it is lent; what it only reads may be the same twice. `table`,
- * `recorded` and `found` are bytes in the formats of paper 01: a weight table, the tree recorded at commissioning
- * (n vertices) and the one found (m vertices). No function asks anything of their content, keeps a pointer, allocates,
- * or reads or writes past an end.
+ * `recorded` and `found` are bytes in the formats of paper 01, and of paper 02, [3], for trees with serials: a weight
+ * table, the tree recorded at commissioning (n vertices) and the one found (m vertices). No function asks anything of
+ * their content, keeps a pointer, allocates, or reads or writes past an end.
  *
  * A refusal number is 0 where the call was carried out, else the number of the first item of paper 01, "Why a call is
- * turned down", that applies among those that the call tests, in its order. A call that is refused changes nothing that
- * it was lent.
+ * turned down", that applies among those that the call tests, in its order. Every call tests 25 after 7 and 26 after 12
+ * as well. A call that is refused changes nothing that it was lent.
+ *
+ * Two vertices whose serials are known, which is not 0, and different are a forbidden pair, whatever the table says.
  *
  * Work numbers, and the mapping or certificate that a call writes, may have more room than needed: what lies behind is
  * left as it was. A table, a tree, and a certificate that is checked are refused if their count is not exactly their
@@ -55,14 +57,15 @@ extern "C" {
 #define PENSUMMER_TABLE_MOST                                                                                           \
     (4 + PENSUMMER_VERTEX_LABELS_MOST * (2 + 4 * PENSUMMER_VERTEX_LABELS_MOST) +                                       \
      PENSUMMER_EDGE_LABELS_MOST * (2 + 4 * PENSUMMER_EDGE_LABELS_MOST))
-/* A tree is never longer, in bytes: 8n - 2. */
-#define PENSUMMER_TREE_MOST (8 * PENSUMMER_VERTICES_MOST - 2)
+/* A tree is never longer, in bytes: 12n - 2, with serials; without them it has 8n - 2. */
+#define PENSUMMER_TREE_MOST (12 * PENSUMMER_VERTICES_MOST - 2)
 /* There are never more work numbers to lend: n(3m - 2). */
 #define PENSUMMER_WORK_MOST (PENSUMMER_VERTICES_MOST * (3 * PENSUMMER_VERTICES_MOST - 2))
 /* A certificate is never longer, in bytes. docs/FORMAT.md says how this follows from the limits above. */
 #define PENSUMMER_CERTIFICATE_MOST 278736
 
-/* ---- refusals: the items in the order in which they are tested. 0 says that the call was carried out. */
+/* ---- refusals: the items in the order in which they are tested, but for the last two. 0 says that the call was carried
+ * out. */
 
 /* The table's length, a mark, or its number of labels is wrong. */
 #define PENSUMMER_TABLE_FORM 1
@@ -112,6 +115,10 @@ extern "C" {
 #define PENSUMMER_CERTIFICATE_RECORD 23
 /* The certificate's weight is not the greater of 0 and its largest value with s = v. */
 #define PENSUMMER_CERTIFICATE_ANSWER 24
+/* A known serial stands twice in the recorded tree. Tested after 7. */
+#define PENSUMMER_RECORDED_SERIAL 25
+/* A known serial stands twice in the found tree. Tested after 12. */
+#define PENSUMMER_FOUND_SERIAL 26
 
 /* ---- answers and the job's record */
 

@@ -29,6 +29,8 @@ static const char *const sentences[] = {
     [PENSUMMER_CERTIFICATE_WEIGHT] = "the certificate's weight is not its mapping's",
     [PENSUMMER_CERTIFICATE_RECORD] = "a subproblem record of the certificate breaks a rule",
     [PENSUMMER_CERTIFICATE_ANSWER] = "the certificate's weight is not the greater of 0 and its largest value with s = v",
+    [PENSUMMER_RECORDED_SERIAL] = "a known serial stands twice in the recorded tree",
+    [PENSUMMER_FOUND_SERIAL] = "a known serial stands twice in the found tree",
 };
 
 const char *item_sentence(uint32_t refusal) {

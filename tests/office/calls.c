@@ -1,5 +1,5 @@
-/* Calls every function of include/pensummer.h from C, on small plant 3 of paper 01, and prints what each gives and leaves. tests/office/run compares the
- * lines. */
+/* Calls every function of include/pensummer.h from C, on small plant 3 of paper 01, without serials and with them, and prints what each gives
+ * and leaves. tests/office/run compares the lines. */
 #include "../../include/pensummer.h"
 
 #include <stdio.h>
@@ -10,6 +10,11 @@
 static const uint8_t table[] = {0xB1, 4, 2, 1, 0xB1, 5, 5, 0, 0, 0, 0xFE, 0xFF, 0xFF, 0xFF, 0xB1, 5, 0xFE, 0xFF, 0xFF, 0xFF, 3, 0, 0, 0, 0xB1, 6, 1, 0, 0, 0};
 static const uint8_t recorded[] = {0xB1, 1, 2, 0xB1, 2, 0, 0xB1, 2, 1, 0xB1, 3, 0, 1, 0};
 static const uint8_t found[] = {0xB1, 1, 2, 0xB1, 2, 1, 0xB1, 2, 0, 0xB1, 3, 0, 1, 0};
+
+/* The same with serials: 7 and 8, 9 and 7; and both with one serial twice. Vertex 0 on 1 is the only pair that they leave. */
+static const uint8_t serials[] = {0xB1, 1, 2, 0xB1, 7, 0, 7, 0, 0, 0, 0xB1, 7, 1, 8, 0, 0, 0, 0xB1, 3, 0, 1, 0};
+static const uint8_t others[] = {0xB1, 1, 2, 0xB1, 7, 1, 9, 0, 0, 0, 0xB1, 7, 0, 7, 0, 0, 0, 0xB1, 3, 0, 1, 0};
+static const uint8_t twice[] = {0xB1, 1, 2, 0xB1, 7, 0, 7, 0, 0, 0, 0xB1, 7, 1, 7, 0, 0, 0, 0xB1, 3, 0, 1, 0};
 
 static int32_t work[9];
 static uint8_t mapping[3], certificate[200];
@@ -35,6 +40,21 @@ static void show_job(const char *call, unsigned refusal, const struct pensummer_
 
 static void show_sizes(struct pensummer_sizes_result s) {
     printf("sizes %u %u %u %u\n", (unsigned)s.refusal, (unsigned)s.subproblems, (unsigned)s.work, (unsigned)s.certificate);
+}
+
+/* What every call gives for a recorded and a found tree with serials. The job's record says that all is solved. */
+static void all_calls(const uint8_t *first, size_t first_len, const uint8_t *second, size_t second_len) {
+    struct pensummer_job job = {0, 2, 2, 8, 40};
+    show_sizes(pensummer_sizes(table, LEN(table), first, first_len, second, second_len));
+    show_match("match", pensummer_match(table, LEN(table), first, first_len, second, second_len, work, LEN(work), mapping, LEN(mapping)));
+    show_work();
+    struct pensummer_advance_result a = pensummer_advance(&job, table, LEN(table), first, first_len, second, second_len, 9, work, LEN(work));
+    show_job("advance", a.refusal, &job);
+    show_match("finish", pensummer_finish(&job, table, LEN(table), first, first_len, second, second_len, work, LEN(work), mapping, LEN(mapping)));
+    struct pensummer_write_result w = pensummer_write(table, LEN(table), first, first_len, second, second_len, work, LEN(work), certificate, LEN(certificate));
+    printf("write %u %u\n", (unsigned)w.refusal, (unsigned)w.length);
+    printf("check %u\n", (unsigned)pensummer_check(table, LEN(table), first, first_len, second, second_len, certificate, w.length));
+    show_job("start", pensummer_start(&job, table, LEN(table), first, first_len, second, second_len, work, LEN(work)), &job);
 }
 
 int main(void) {
@@ -81,5 +101,12 @@ int main(void) {
     printf("write %u %u tail %u\n", (unsigned)w.refusal, (unsigned)w.length, certificate[sizes.certificate]);
     show_work();
     printf("check %u %u\n", (unsigned)pensummer_check(PLANT, certificate, w.length), (unsigned)pensummer_check(PLANT, certificate, LEN(certificate)));
+
+    clear();
+    all_calls(twice, LEN(twice), found, LEN(found));
+    all_calls(recorded, LEN(recorded), twice, LEN(twice));
+    all_calls(twice, LEN(twice), twice, LEN(twice));
+    all_calls(twice, LEN(twice), serials, LEN(serials) - 1);
+    all_calls(serials, LEN(serials), others, LEN(others));
     return 0;
 }

@@ -24,7 +24,7 @@ pub data Expected : Type 0 where
 pub data Row : Type 0 where
   plant : ℕ → List ℕ → List ℕ → List ℕ → Expected → Row
 
--- items 1 to 12 let it pass, the answer is w, and p is a heaviest mapping, which weighs w
+-- items 1 to 12, 25 and 26 let it pass, the answer is w, and p is a heaviest mapping, which weighs w
 pub record Weighs (table recorded found : List ℕ) (w : ℤ) (p : List ℕ) : Type 0 where
   pub passes : inputItem table recorded found ≡ 0
   pub answers : answer table recorded found ≡ w

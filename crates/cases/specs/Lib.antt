@@ -1,4 +1,4 @@
--- Plants written as bytes, the table of small plants, what else the definitions compute of such plants, and the limits.
+-- Plants written as bytes, the table of small plants, what else the definitions compute of such plants, the limits, and serials.
 pub mod Plants
 pub mod Expected
 pub mod SmallPlants
@@ -7,3 +7,4 @@ pub mod ValueCases
 pub mod CertificateCases
 pub mod SizesCases
 pub mod LimitCases
+pub mod SerialCases

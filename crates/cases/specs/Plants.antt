@@ -1,4 +1,4 @@
--- Tables and trees written as the bytes of paper 01. Assumes nothing.
+-- Tables and trees written as the bytes of papers 01 and 02. Assumes nothing.
 use mathlib.Core.List.{List, [], _∷_, _++_}
 use Prim.Native.Nat.{ℕ, suc, _-_, _/_, _%_}
 use lib.IntN.{ℤ, pos, negsuc, negℤ}
@@ -49,6 +49,26 @@ star labels = treeOf labels (replicate (length labels - 1) 0)
 -- three vertices of label 0 with edges a-b and c-d
 unfoldable pub three : ℕ → ℕ → ℕ → ℕ → List ℕ
 three a b c d = vertexBytes (0 ∷ 0 ∷ 0 ∷ []) ++ edge a b ++ edge c d
+
+-- ---- the same trees with serials, in the longer records of paper 02, [3]
+
+unfoldable pub serialRecords : List ℕ → List ℕ → List ℕ
+serialRecords [] serials = []
+serialRecords (k ∷ labels) [] = []
+serialRecords (k ∷ labels) (x ∷ serials) = 0xB1 ∷ 0x07 ∷ k ∷ wordBytes x ++ serialRecords labels serials
+
+unfoldable pub headWith : List ℕ → List ℕ → List ℕ
+headWith labels serials = 0xB1 ∷ 0x01 ∷ length labels ∷ serialRecords labels serials
+
+unfoldable pub pathWith : List ℕ → List ℕ → List ℕ
+pathWith labels serials = headWith labels serials ++ edgesOf 1 (take (length labels - 1) (0 ∷ 1 ∷ 2 ∷ []))
+
+unfoldable pub starWith : List ℕ → List ℕ → List ℕ
+starWith labels serials = headWith labels serials ++ edgesOf 1 (replicate (length labels - 1) 0)
+
+-- all serials unknown
+unfoldable pub unknown : List ℕ → List ℕ
+unknown labels = replicate (length labels) 0
 
 -- ---- the tables of the small plants
 

@@ -112,7 +112,7 @@ pub squares-add : (f : List ℕ) (K L : ℕ) → Passed f K L → (v d sum : ℕ
 unfolding squares
 squares-add f K L p v d sum l e g = (rw (add-one v, e, g), squares-few f K L p (v + 1) (omega arith))
 
--- ---- for inputs that items 1 to 12 let pass
+-- ---- for inputs that items 1 to 12, 25 and 26 let pass
 
 module _ (table r f : List ℕ) (e : inputItem table r f ≡ 0) where
   pub record-place : (i v q : ℕ) → i < count r → v < count f → q ≤ length (neighbours f v) →

@@ -1,4 +1,4 @@
--- What the front of the check says: the items 1 to 12 and 20 to 22, and where the records begin. Assumes nothing.
+-- What the front of the check says: the items 1 to 12, 20 to 22, 25 and 26, and where the records begin. Assumes nothing.
 use mathlib.Core.Path.{_≡_}
 use mathlib.Core.Logic.{_≢_}
 use mathlib.Core.Bool.{true}
@@ -9,7 +9,7 @@ use Rattle.model.specs.Mapping.{weight, mappingOk}
 use Rattle.model.specs.Calls.{inputItem}
 use Rattle.model.specs.Certificate.{weightIn, mappingIn, eqZ, shapeOk, checkOf}
 
--- none of the items 1 to 12 and 20 to 22 applies; the records begin at `next`
+-- none of the items 1 to 12, 20 to 22, 25 and 26 applies; the records begin at `next`
 pub record FrontPassed (table r f z : List ℕ) (next : ℕ) : Type 0 where
   pub input : inputItem table r f ≡ 0
   pub shaped : shapeOk r f z ≡ true

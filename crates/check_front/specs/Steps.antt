@@ -153,7 +153,7 @@ module _ (table r f z : List ℕ) (ok : Bool) (e : ok ≡ shapeOk r f z) where
   item-later h k g = cond-yes (shapeOk r f z) ok k _ 20 e h g
 
 module _ (table r f z : List ℕ) (next : ℕ) where
-  -- one of the items 1 to 12 applies
+  -- one of the items 1 to 12, 25 and 26 applies
   pub checked-input : next ≡ 0 → (i : ℕ) → i ≢ 0 → i ≡ inputItem table r f → FrontChecked table r f z i next
   checked-input here i n e = record { refused = λ m. e ∙ sym (check-input table r f z (λ h. n (e ∙ h))); passed = λ h. absurd (n h); stays = λ m. here; moves = λ h. absurd (n (e ∙ h)) }
 

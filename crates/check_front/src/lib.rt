@@ -1,4 +1,4 @@
-//! The front of a certificate's check: the items 1 to 12 and 20 to 22. `at` is where the certificate begins and the answer's `next` where its
+//! The front of a certificate's check: the items 1 to 12, 20 to 22, 25 and 26. `at` is where the certificate begins and the answer's `next` where its
 //! records do.
 mod shape;
 mod weighing;
@@ -42,7 +42,7 @@ pub struct Front {
     pub next: usize,
 }
 
-// The items 1 to 12, then 20 to 22.
+// The items 1 to 12, 25 and 26, then 20 to 22.
 pub fn check_front(
     table: &[u8],
     recorded: &[u8],

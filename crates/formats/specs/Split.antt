@@ -1,14 +1,38 @@
 -- What the split of the match program's input says, and that its two numbers give the model's parts. Assumes nothing.
-use mathlib.Core.Path.{_≡_, sym, ap, _∙_}
+use mathlib.Core.Path.{_≡_, refl, sym, ap, _∙_}
 use mathlib.Core.Logic.{⊎-elim}
-use mathlib.Core.List.{List}
-use Prim.Native.Nat.{ℕ, _+_, _-_, _≤_, min}
+use mathlib.Core.Bool.{true, false, not, true≢false}
+use mathlib.Core.List.{List, [], _∷_}
+use Prim.Native.Nat.{ℕ, _+_, _-_, _≤_, _<_, min}
 use native.Mathlib.Omega.{arith}
-use lib.ListN.{length, take, drop, length-drop, drop-of-length-le}
+use lib.Dec.{eqb}
+use lib.ListN.{length, take, drop, length-drop, drop-of-length-le, List·getD-eq-default}
 use lib.Seq.{take-all, drop-drop}
-use Rattle.foundations.specs.Tests.{less?}
+use borrow.Author.Tests.{eqb-false}
+use Rattle.foundations.specs.Tests.{less?, and-false, and-split, is-false}
+use Rattle.model.specs.Bytes.{byteAt, isMark}
 use Rattle.model.specs.Table.{tableLength}
-use Rattle.model.specs.Input.{tablePart, afterTable, treeLength, recordedPart, foundPart}
+use Rattle.model.specs.Tree.{count}
+use Rattle.model.specs.Input.{tablePart, afterTable, lengthKnown, treeLength, recordedPart, foundPart}
+
+-- ---- the length of a tree, from its head and its first vertex mark
+
+-- of a mark that is cut off the second byte is missing
+no-mark : (s : List ℕ) (m : ℕ) → length s ≤ 4 → eqb 0 m ≡ false → isMark s 3 (0xB1 ∷ m ∷ []) ≡ false
+no-mark s m h e = rw (List·getD-eq-default s 0 {n = 4} h, e) (and-false (eqb (byteAt s 3) 0xB1))
+
+pub length-unknown : (s : List ℕ) → length s ≤ 4 → lengthKnown s ≡ false
+unfolding lengthKnown
+length-unknown s h = rw (no-mark s 2 h refl, no-mark s 7 h refl) (and-false (not (eqb (count s) 0)))
+
+pub length-says : (s : List ℕ) → lengthKnown s ≡ true → (4 < length s) × (1 ≤ count s)
+unfolding lengthKnown
+length-says s h = (⊎-elim (λ l. l) (λ l. absurd (true≢false (sym h ∙ length-unknown s l))) (less? 4 (length s)), some)
+  where
+    some : 1 ≤ count s
+    some = let z = eqb-false (count s) 0 (is-false _ (λ e. true≢false (sym (and-split (not (eqb (count s) 0)) _ h .0) ∙ rw e))) in omega (arith, z)
+
+-- ---- the split
 
 -- the recorded tree begins at a, the found one at b
 pub record SplitAt (input : List ℕ) (a b : ℕ) : Type 0 where

@@ -15,45 +15,52 @@ use Rattle.foundations.specs.Lists.{every, every-step, tab, length-tab, getD-ta
 use Rattle.model.specs.Edges.{component}
 use Rattle.model.specs.Limits.{vertexLimit}
 use Rattle.model.specs.Refusals.{Item, item, firstOf}
-use Rattle.model.specs.Tree.{count, endA, endB, sized, marked, labelsKnown, endsLow, closes, acyclic, degree, fewEdges, treeItem}
+use Rattle.model.specs.Tree.{count, endA, endB, sized, marked, labelsKnown, endsLow, closes, acyclic, degree, fewEdges, serialsDiffer, treeItem}
 
-abbrev pub itemsFrom6 : ℕ → List ℕ → ℕ → List Item
-itemsFrom6 first s n = item (first + 3) (not (acyclic s n)) ∷ item (first + 4) (not (fewEdges s n)) ∷ []
+abbrev pub itemsFrom6 : ℕ → ℕ → List ℕ → ℕ → List Item
+itemsFrom6 first twice s n = item (first + 3) (not (acyclic s n)) ∷ item (first + 4) (not (fewEdges s n)) ∷ item twice (not (serialsDiffer s n)) ∷ []
 
-abbrev pub itemsFrom5 : ℕ → List ℕ → ℕ → List Item
-itemsFrom5 first s n = item (first + 2) (not (endsLow s n)) ∷ itemsFrom6 first s n
+abbrev pub itemsFrom5 : ℕ → ℕ → List ℕ → ℕ → List Item
+itemsFrom5 first twice s n = item (first + 2) (not (endsLow s n)) ∷ itemsFrom6 first twice s n
 
-abbrev pub itemsFrom4 : ℕ → List ℕ → ℕ → ℕ → ℕ → List Item
-itemsFrom4 first s n K L = item (first + 1) (not (labelsKnown s n K L)) ∷ itemsFrom5 first s n
+abbrev pub itemsFrom4 : ℕ → ℕ → List ℕ → ℕ → ℕ → ℕ → List Item
+itemsFrom4 first twice s n K L = item (first + 1) (not (labelsKnown s n K L)) ∷ itemsFrom5 first twice s n
 
--- the found tree's items are the recorded one's, five more
-shift : (a b c d e : Bool) → firstOf (item 8 (not a) ∷ item 9 (not b) ∷ item 10 (not c) ∷ item 11 (not d) ∷ item 12 (not e) ∷ [])
-    ≡ cond (eqb (firstOf (item 3 (not a) ∷ item 4 (not b) ∷ item 5 (not c) ∷ item 6 (not d) ∷ item 7 (not e) ∷ [])) 0) 0
-    (firstOf (item 3 (not a) ∷ item 4 (not b) ∷ item 5 (not c) ∷ item 6 (not d) ∷ item 7 (not e) ∷ []) + 5)
+-- the found tree's item for the recorded one's: five more, and 26 for 25
+abbrev pub foundNumber : ℕ → ℕ
+foundNumber k = cond (eqb k 0) 0 (cond (eqb k 25) 26 (k + 5))
+
+-- a tree's items by what it passes
+abbrev six : ℕ → ℕ → Bool → Bool → Bool → Bool → Bool → Bool → List Item
+six first twice a b c d e f = item first (not a) ∷ item (first + 1) (not b) ∷ item (first + 2) (not c) ∷ item (first + 3) (not d) ∷ item (first + 4) (not e) ∷ item twice (not f) ∷ []
+
+shift : (a b c d e f : Bool) → firstOf (six 8 26 a b c d e f) ≡ foundNumber (firstOf (six 3 25 a b c d e f))
 unfolding firstOf
-shift false b c d e = refl
-shift true false c d e = refl
-shift true true false d e = refl
-shift true true true false e = refl
-shift true true true true false = refl
-shift true true true true true = refl
+shift false b c d e f = refl
+shift true false c d e f = refl
+shift true true false d e f = refl
+shift true true true false e f = refl
+shift true true true true false f = refl
+shift true true true true true false = refl
+shift true true true true true true = refl
 
-small : (a b c d e : Bool) → firstOf (item 3 (not a) ∷ item 4 (not b) ∷ item 5 (not c) ∷ item 6 (not d) ∷ item 7 (not e) ∷ []) ≤ 7
+small : (a b c d e f : Bool) → firstOf (six 3 25 a b c d e f) ≤ 25
 unfolding firstOf
-small false b c d e = omega arith
-small true false c d e = omega arith
-small true true false d e = omega arith
-small true true true false e = omega arith
-small true true true true false = omega arith
-small true true true true true = omega arith
+small false b c d e f = omega arith
+small true false c d e f = omega arith
+small true true false d e f = omega arith
+small true true true false e f = omega arith
+small true true true true false f = omega arith
+small true true true true true false = omega arith
+small true true true true true true = omega arith
 
-pub item-small : (s : List ℕ) (K L : ℕ) → treeItem 3 s K L ≤ 7
+pub item-small : (s : List ℕ) (K L : ℕ) → treeItem 3 25 s K L ≤ 25
 unfolding treeItem
-item-small s K L = small (sized s && marked s (count s)) (labelsKnown s (count s) K L) (endsLow s (count s)) (acyclic s (count s)) (fewEdges s (count s))
+item-small s K L = small (sized s && marked s (count s)) (labelsKnown s (count s) K L) (endsLow s (count s)) (acyclic s (count s)) (fewEdges s (count s)) (serialsDiffer s (count s))
 
-pub found-shift : (s : List ℕ) (K L : ℕ) → treeItem 8 s K L ≡ cond (eqb (treeItem 3 s K L) 0) 0 (treeItem 3 s K L + 5)
+pub found-shift : (s : List ℕ) (K L : ℕ) → treeItem 8 26 s K L ≡ foundNumber (treeItem 3 25 s K L)
 unfolding treeItem
-found-shift s K L = shift (sized s && marked s (count s)) (labelsKnown s (count s) K L) (endsLow s (count s)) (acyclic s (count s)) (fewEdges s (count s))
+found-shift s K L = shift (sized s && marked s (count s)) (labelsKnown s (count s) K L) (endsLow s (count s)) (acyclic s (count s)) (fewEdges s (count s)) (serialsDiffer s (count s))
 
 -- ---- one turn of the test for cycles, of the merging, and of a degree
 

@@ -7,7 +7,7 @@ use crate::tree::tree_item;
 ghost use mathlib.Core.Path.{_≡_};
 ghost use Rattle.model.specs.Calls.{inputItem};
 
-// The first of the items 1 to 12 that applies, 0 for none.
+// The first of the items 1 to 12, 25 and 26 that applies in the order tested, 0 for none.
 pub fn input_item(table: &[u8], recorded: &[u8], found: &[u8]) -> u8
     ensures { λ r. ⌜ r ≡ inputItem (now (table .entry)) (now (recorded .entry)) (now (found .entry)) ⌝ }
 {

@@ -1,7 +1,9 @@
-//! Readers over bytes: why a table or a tree is refused (items 1 to 12), what stands in them, and a tree's neighbours.
+//! Readers over bytes: why a table or a tree is refused (items 1 to 12, 25 and 26), what stands in them, and a tree's neighbours.
 pub mod bytes;
 pub mod inputs;
 pub mod marks;
+mod places;
+pub mod serials;
 pub mod split;
 pub mod table;
 pub mod tree;

@@ -1,10 +1,12 @@
 //! Where the table, the recorded tree and the found tree stand in the match program's input.
 use crate::bytes::byte_or_zero;
+use crate::marks::is_mark;
+use crate::places::tree_size;
 use crate::table::rows_length;
 use integers::lesser;
 ghost use mathlib.Core.Path.{_≡_};
 ghost use Rattle.model.specs.Table.{tableLength};
-ghost use Rattle.model.specs.Input.{treeLength};
+ghost use Rattle.model.specs.Input.{lengthKnown, treeLength};
 ghost use Rattle.formats.specs.Split.{SplitAt};
 
 // Where the recorded and the found tree begin.
@@ -21,11 +23,26 @@ fn table_length(input: &[u8]) -> usize
     4 + rows_length(k) + rows_length(l)
 }
 
+// The count and the first vertex mark say how long a tree is.
+fn is_length_known(s: &[u8]) -> bool
+    ensures { λ r. ⌜ r ≡ lengthKnown (now (s .entry)) ⌝ }
+{
+    if s.len() < 5 {
+        return false;
+    }
+    let short = is_mark(s, 3, b"\xB1\x02");
+    let long = is_mark(s, 3, b"\xB1\x07");
+    (s[2] != 0) & (short | long)
+}
+
 fn tree_length(s: &[u8]) -> usize
     ensures { λ r. ⌜ r ≡ treeLength (now (s .entry)) ⌝ }
 {
-    let n = byte_or_zero(s, 2) as usize;
-    if n == 0 { s.len() } else { 8 * n - 2 }
+    let known = is_length_known(s);
+    if !known {
+        return s.len();
+    }
+    tree_size(s, s[2])
 }
 
 // The parts of the input, whatever it is.

@@ -1,19 +1,24 @@
-//! Why a tree is refused: items 3 to 7, and 8 to 12 for the found tree; its count, labels and edge ends.
+//! Why a tree is refused: items 3 to 7 and 25, and 8 to 12 and 26 for the found tree; its count, labels and edge ends.
 use crate::marks::is_mark;
+use crate::places::edge_start;
+use crate::places::tree_size;
+use crate::places::vertex_start;
+use crate::places::with_serials;
+use crate::serials::do_serials_differ;
 use model::Limits;
 use model::VertexTable;
-ghost use Prim.Native.Nat.{_+_, _*_, _<_, _-_};
+ghost use Prim.Native.Nat.{_+_, _≤_, _<_, _-_};
 ghost use lib.ListN.{getD};
 ghost use lib.Dec.{eqb, ltb};
 ghost use mathlib.Core.Path.{_≡_};
 ghost use mathlib.Core.Bool.{true, _&&_, cond};
 ghost use Rattle.foundations.specs.Lists.{every, tab};
-ghost use Rattle.model.specs.Bytes.{isMark, vertexMark, edgeMark};
+ghost use Rattle.model.specs.Bytes.{isMark, edgeMark};
 ghost use Rattle.model.specs.Limits.{vertexLimit};
 ghost use Rattle.model.specs.Refusals.{firstOf};
-ghost use Rattle.model.specs.Tree.{count, vertexLabel, endA, endB, edgeLabelAt, vertexStart, edgeStart, sized, marked, labelsKnown, endsLow, acyclic, degree, fewEdges, treeItem};
+ghost use Rattle.model.specs.Tree.{count, vertexLabel, endA, endB, edgeLabelAt, vertexMarkOf, vertexStart, edgeStart, sized, marked, labelsKnown, endsLow, acyclic, degree, fewEdges, treeItem};
 ghost use Rattle.trees.specs.Accepted.{Whole, Ends};
-ghost use Rattle.formats.specs.TreeItems.{itemsFrom4, itemsFrom5, itemsFrom6};
+ghost use Rattle.formats.specs.TreeItems.{itemsFrom4, itemsFrom5, itemsFrom6, foundNumber};
 
 // ---- the bytes of an accepted tree
 
@@ -23,7 +28,7 @@ pub fn end_a(s: &[u8], n: usize, j: usize) -> u8
     requires { ⌜ j + 1 < n ⌝ }
     ensures { λ r. ⌜ r ≡ endA (now (s .entry)) n j ⌝ }
 {
-    s[5 + 3 * n + 5 * j]
+    s[edge_start(s, n, j) + 2]
 }
 
 pub fn end_b(s: &[u8], n: usize, j: usize) -> u8
@@ -31,7 +36,7 @@ pub fn end_b(s: &[u8], n: usize, j: usize) -> u8
     requires { ⌜ j + 1 < n ⌝ }
     ensures { λ r. ⌜ r ≡ endB (now (s .entry)) n j ⌝ }
 {
-    s[6 + 3 * n + 5 * j]
+    s[edge_start(s, n, j) + 3]
 }
 
 pub fn edge_label_at(s: &[u8], n: usize, j: usize) -> u8
@@ -39,7 +44,7 @@ pub fn edge_label_at(s: &[u8], n: usize, j: usize) -> u8
     requires { ⌜ j + 1 < n ⌝ }
     ensures { λ r. ⌜ r ≡ edgeLabelAt (now (s .entry)) n j ⌝ }
 {
-    s[7 + 3 * n + 5 * j]
+    s[edge_start(s, n, j) + 4]
 }
 
 pub fn vertex_label(s: &[u8], n: usize, v: usize) -> u8
@@ -47,7 +52,7 @@ pub fn vertex_label(s: &[u8], n: usize, v: usize) -> u8
     requires { ⌜ v < n ⌝ }
     ensures { λ r. ⌜ r ≡ vertexLabel (now (s .entry)) v ⌝ }
 {
-    s[5 + 3 * v]
+    s[vertex_start(s, n, v) + 2]
 }
 
 // ---- item 3: length, count and marks
@@ -55,11 +60,14 @@ pub fn vertex_label(s: &[u8], n: usize, v: usize) -> u8
 fn is_sized(s: &[u8]) -> bool
     ensures { λ r. ⌜ r ≡ sized (now (s .entry)) ⌝ }
 {
-    if s.len() < 3 {
+    if s.len() < 5 {
         return false;
     }
-    let n = s[2] as usize;
-    ((1 <= n) & (n <= (Limits::VERTICES as usize))) & (s.len() + 2 == 8 * n)
+    let n = s[2];
+    if n == 0 {
+        return false;
+    }
+    (n <= Limits::VERTICES) & (s.len() == tree_size(s, n))
 }
 
 // The number of vertices of a tree of the right length.
@@ -70,42 +78,50 @@ pub fn vertex_count(s: &[u8]) -> usize
     s[2] as usize
 }
 
-fn is_vertex(s: &[u8], at: usize) -> bool
-    requires { do ⌜ at + 1 < (← ⟦s.len()⟧) ⌝ }
-    ensures { λ r. ⌜ r ≡ isMark (now (s .entry)) at vertexMark ⌝ }
+// The record of vertex v has the mark of the first.
+fn is_vertex(s: &[u8], n: usize, v: usize) -> bool
+    requires { ⌜ Whole (now s) n ⌝ }
+    requires { ⌜ v < n ⌝ }
+    ensures { λ r. ⌜ r ≡ isMark (now (s .entry)) (vertexStart (now (s .entry)) v) (vertexMarkOf (now (s .entry))) ⌝ }
 {
-    is_mark(s, at, b"\xB1\x02")
+    let at = vertex_start(s, n, v);
+    if with_serials(s) {
+        is_mark(s, at, b"\xB1\x07")
+    } else {
+        is_mark(s, at, b"\xB1\x02")
+    }
 }
 
 fn vertices_marked(s: &[u8], n: usize) -> bool
     requires { ⌜ Whole (now s) n ⌝ }
-    ensures { λ r. ⌜ r ≡ every (λ v. isMark (now (s .entry)) (vertexStart v) vertexMark) n ⌝ }
+    ensures { λ r. ⌜ r ≡ every (λ v. isMark (now (s .entry)) (vertexStart (now (s .entry)) v) (vertexMarkOf (now (s .entry)))) n ⌝ }
 {
     let mut ok = true;
     let mut v = 0;
     while v < n {
-        let k = is_vertex(s, 3 + 3 * v);
+        let k = is_vertex(s, n, v);
         ok = ok & k;
         v += 1;
     }
     ok
 }
 
-fn is_edge(s: &[u8], at: usize) -> bool
-    requires { do ⌜ at + 1 < (← ⟦s.len()⟧) ⌝ }
-    ensures { λ r. ⌜ r ≡ isMark (now (s .entry)) at edgeMark ⌝ }
+fn is_edge(s: &[u8], n: usize, j: usize) -> bool
+    requires { ⌜ Whole (now s) n ⌝ }
+    requires { ⌜ j + 1 < n ⌝ }
+    ensures { λ r. ⌜ r ≡ isMark (now (s .entry)) (edgeStart (now (s .entry)) n j) edgeMark ⌝ }
 {
-    is_mark(s, at, b"\xB1\x03")
+    is_mark(s, edge_start(s, n, j), b"\xB1\x03")
 }
 
 fn edges_marked(s: &[u8], n: usize) -> bool
     requires { ⌜ Whole (now s) n ⌝ }
-    ensures { λ r. ⌜ r ≡ every (λ j. isMark (now (s .entry)) (edgeStart n j) edgeMark) (n - 1) ⌝ }
+    ensures { λ r. ⌜ r ≡ every (λ j. isMark (now (s .entry)) (edgeStart (now (s .entry)) n j) edgeMark) (n - 1) ⌝ }
 {
     let mut ok = true;
     let mut j = 0;
     while j + 1 < n {
-        let k = is_edge(s, 3 + 3 * n + 5 * j);
+        let k = is_edge(s, n, j);
         ok = ok & k;
         j += 1;
     }
@@ -131,8 +147,8 @@ fn vertex_labels_known(s: &[u8], n: usize, labels: u8) -> bool
     let mut ok = true;
     let mut v = 0;
     while v < n {
-        let k = s[5 + 3 * v];
-        ok = ok & (k < labels);
+        let at = vertex_start(s, n, v);
+        ok = ok & (s[at + 2] < labels);
         v += 1;
     }
     ok
@@ -145,8 +161,8 @@ fn edge_labels_known(s: &[u8], n: usize, labels: u8) -> bool
     let mut ok = true;
     let mut j = 0;
     while j + 1 < n {
-        let k = s[7 + 3 * n + 5 * j];
-        ok = ok & (k < labels);
+        let at = edge_start(s, n, j);
+        ok = ok & (s[at + 4] < labels);
         j += 1;
     }
     ok
@@ -168,7 +184,8 @@ fn ends_low_at(s: &[u8], n: usize, j: usize) -> bool
     requires { ⌜ j + 1 < n ⌝ }
     ensures { λ r. ⌜ r ≡ (ltb (endA (now (s .entry)) n j) n && ltb (endB (now (s .entry)) n j) n) ⌝ }
 {
-    ((s[5 + 3 * n + 5 * j] as usize) < n) & ((s[6 + 3 * n + 5 * j] as usize) < n)
+    let at = edge_start(s, n, j);
+    ((s[at + 2] as usize) < n) & ((s[at + 3] as usize) < n)
 }
 
 fn are_ends_low(s: &[u8], n: usize) -> bool
@@ -288,7 +305,7 @@ fn are_edges_few(s: &[u8], n: usize) -> bool
 
 fn item_from_6(s: &[u8], n: usize) -> u8
     requires { ⌜ Ends (now s) n ⌝ }
-    ensures { λ r. ⌜ r ≡ firstOf (itemsFrom6 3 (now (s .entry)) n) ⌝ }
+    ensures { λ r. ⌜ r ≡ firstOf (itemsFrom6 3 25 (now (s .entry)) n) ⌝ }
 {
     let tree = is_acyclic(s, n);
     if !tree {
@@ -298,12 +315,16 @@ fn item_from_6(s: &[u8], n: usize) -> u8
     if !few {
         return 7;
     }
+    let differ = do_serials_differ(s, n);
+    if !differ {
+        return 25;
+    }
     0
 }
 
 fn item_from_5(s: &[u8], n: usize) -> u8
     requires { ⌜ Whole (now s) n ⌝ }
-    ensures { λ r. ⌜ r ≡ firstOf (itemsFrom5 3 (now (s .entry)) n) ⌝ }
+    ensures { λ r. ⌜ r ≡ firstOf (itemsFrom5 3 25 (now (s .entry)) n) ⌝ }
 {
     let low = are_ends_low(s, n);
     if !low {
@@ -314,7 +335,7 @@ fn item_from_5(s: &[u8], n: usize) -> u8
 
 fn item_from_4(s: &[u8], n: usize, k: u8, l: u8) -> u8
     requires { ⌜ Whole (now s) n ⌝ }
-    ensures { λ r. ⌜ r ≡ firstOf (itemsFrom4 3 (now (s .entry)) n k l) ⌝ }
+    ensures { λ r. ⌜ r ≡ firstOf (itemsFrom4 3 25 (now (s .entry)) n k l) ⌝ }
 {
     let known = are_labels_known(s, n, k, l);
     if !known {
@@ -323,9 +344,9 @@ fn item_from_4(s: &[u8], n: usize, k: u8, l: u8) -> u8
     item_from_5(s, n)
 }
 
-// The first of the items 3 to 7 that applies to the recorded tree, 0 for none; K and L are the table's numbers of labels.
+// The first of the items 3 to 7 and 25 that applies to the recorded tree, 0 for none; K and L are the table's numbers of labels.
 pub fn tree_item(s: &[u8], k: u8, l: u8) -> u8
-    ensures { λ r. ⌜ r ≡ treeItem 3 (now (s .entry)) k l ⌝ }
+    ensures { λ r. ⌜ r ≡ treeItem 3 25 (now (s .entry)) k l ⌝ }
 {
     let right = is_sized(s);
     if !right {
@@ -339,10 +360,23 @@ pub fn tree_item(s: &[u8], k: u8, l: u8) -> u8
     item_from_4(s, n, k, l)
 }
 
-// The same for the found tree: 8 to 12, 0 for none.
-pub fn found_item(s: &[u8], k: u8, l: u8) -> u8
-    ensures { λ r. ⌜ r ≡ treeItem 8 (now (s .entry)) k l ⌝ }
+// The number that the found tree gets for the recorded one's.
+fn found_number(i: u8) -> u8
+    requires { ⌜ i ≤ 25 ⌝ }
+    ensures { λ r. ⌜ r ≡ foundNumber i ⌝ }
 {
-    let i = tree_item(s, k, l);
-    if i == 0 { 0 } else { i + 5 }
+    if i == 0 {
+        return 0;
+    }
+    if i == 25 {
+        return 26;
+    }
+    i + 5
+}
+
+// The same for the found tree: 8 to 12 and 26, 0 for none.
+pub fn found_item(s: &[u8], k: u8, l: u8) -> u8
+    ensures { λ r. ⌜ r ≡ treeItem 8 26 (now (s .entry)) k l ⌝ }
+{
+    found_number(tree_item(s, k, l))
 }

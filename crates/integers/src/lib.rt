@@ -3,7 +3,7 @@ ghost use mathlib.Core.Path.{_≡_};
 ghost use mathlib.Core.Bool.{true};
 ghost use Prim.Native.Nat.{_+_, _≤_, _<_, _^_, min};
 ghost use Rattle.foundations.specs.Int.{up};
-ghost use Rattle.model.specs.Bytes.{word, signed32, bits32, int32, int32At, putWord, putInt32};
+ghost use Rattle.model.specs.Bytes.{word, wordAt, signed32, bits32, int32, int32At, putWord, putInt32};
 ghost use Rattle.model.specs.Weights.{isForbidden, inRange, weightOk};
 ghost use Rattle.integers.specs.Results.{Gain, StoredValue};
 
@@ -19,6 +19,14 @@ fn unsigned_of(b0: u8, b1: u8, b2: u8, b3: u8) -> u32
     ensures { λ r. ⌜ r ≡ word b0 b1 b2 b3 ⌝ }
 {
     wide(b0) + 256 * wide(b1) + 65536 * wide(b2) + 16777216 * wide(b3)
+}
+
+// The number of the four bytes from `at` on.
+pub fn word_at(s: &[u8], at: usize) -> u32
+    requires { do ⌜ at + 4 ≤ (← ⟦s.len()⟧) ⌝ }
+    ensures { λ r. ⌜ r ≡ wordAt (now (s .entry)) at ⌝ }
+{
+    unsigned_of(s[at], s[at + 1], s[at + 2], s[at + 3])
 }
 
 // The integer that 32 bits stand for.

@@ -76,7 +76,7 @@ record-counts j h =
     (leb-true (j .n) vertexLimit (n .1), leb-true 1 (j .m) (m .0), leb-true (j .m) vertexLimit (m .1))
 
 module _ (table r f : List ℕ) (work : List ℤ) where
-  -- ---- start: 1 to 13
+  -- ---- start: 1 to 13, 25 and 26
 
   pub start-input : inputItem table r f ≢ 0 → startItem table r f work ≡ inputItem table r f
   unfolding startItem inputItem
@@ -110,7 +110,7 @@ module _ (table r f : List ℕ) (work : List ℤ) where
   pub regroup : (i : Item) → inputItems table r f ++ (workItem r f work ∷ i ∷ []) ≡ startItems table r f work ++ (i ∷ [])
   regroup i = sym (append-assoc (inputItems table r f) (workItem r f work ∷ []) (i ∷ []))
 
-  -- ---- a call that tests 1 to 13 and one item more (the match in one call 18, writing a certificate 19), which applies where x is less than y
+  -- ---- a call that tests 1 to 13, 25 and 26 and one item more (the match in one call 18, writing a certificate 19), which applies where x is less than y
 
   module _ (k x y : ℕ) where
     abbrev lastItem : ℕ
@@ -179,7 +179,7 @@ module _ (table r f : List ℕ) (work : List ℤ) where
         let s = start-passed (a .0) in
         (s .0, s .1, a .1, a .2, position-in (a .1) (a .2))
 
-    -- ---- advance: 1 to 16
+    -- ---- advance: 1 to 16, 25 and 26
 
     advance-start : startItem table r f work ≢ 0 → advanceItem j table r f work ≡ startItem table r f work
     unfolding advanceItem startItem
@@ -217,7 +217,7 @@ module _ (table r f : List ℕ) (work : List ℤ) where
     advance-numbered : Numbered (advanceItems j table r f work)
     advance-numbered = numbered-append start-numbered (more {k = 14} (omega arith) (more {k = 15} (omega arith) (more {k = 16} (omega arith) end)))
 
-    -- ---- finish: 1 to 18
+    -- ---- finish: 1 to 18, 25 and 26
 
     module _ (mapping : List ℕ) where
       pub finish-advance : advanceItem j table r f work ≢ 0 → finishItem j table r f work mapping ≡ advanceItem j table r f work

@@ -13,7 +13,7 @@ ghost use Rattle.model.specs.Jobs.{countOk, recordOk, sameTrees, isLeft, startI
 ghost use Rattle.trees.specs.Accepted.{Sound};
 ghost use Rattle.job_items.specs.Items.{earlyItem};
 
-// The first of the items 1 to 13 that applies, 0 for none.
+// The first of the items 1 to 13, 25 and 26 that applies, 0 for none.
 pub fn start_item(table: &[u8], recorded: &[u8], found: &[u8], work: &[i32]) -> u8
     ensures { λ r. ⌜ r ≡ startItem (now (table .entry)) (now (recorded .entry)) (now (found .entry)) (now (work .entry)) ⌝ }
 {

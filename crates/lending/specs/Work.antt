@@ -45,7 +45,7 @@ other-first (more {t = true} n o) h = n h
 other-first (more {t = false} n o) h = other-first o h
 
 module _ (table r f : List ℕ) (work : List ℤ) where
-  -- each of them tests 1 to 13, and then items that are not 13
+  -- each of them tests 1 to 13, 25 and 26, and then items that are not 13
   each : (P : ℕ → Type 0) → ((rest : List Item) → Other rest → P (firstOf (startItems table r f work ++ rest))) → EachNumber P table r f work
   unfolding startItem advanceItem finishItem matchItem writeItem
   each P h =

@@ -16,12 +16,15 @@ byteAt s i = getD s i 0
 abbrev pub isMark : List ℕ → ℕ → List ℕ → Bool
 isMark s i m = eqb (byteAt s i) (byteAt m 0) && eqb (byteAt s (i + 1)) (byteAt m 1)
 
--- layout head, device, line
+-- layout head, device, device with a serial number (paper 02, [3]), line
 abbrev pub treeMark : List ℕ
 treeMark = 0xB1 ∷ 0x01 ∷ []
 
 abbrev pub vertexMark : List ℕ
 vertexMark = 0xB1 ∷ 0x02 ∷ []
+
+abbrev pub serialMark : List ℕ
+serialMark = 0xB1 ∷ 0x07 ∷ []
 
 abbrev pub edgeMark : List ℕ
 edgeMark = 0xB1 ∷ 0x03 ∷ []
@@ -41,6 +44,10 @@ edgeRowMark = 0xB1 ∷ 0x06 ∷ []
 -- the number of four bytes, low byte first
 abbrev pub word : ℕ → ℕ → ℕ → ℕ → ℕ
 word b0 b1 b2 b3 = b0 + 256 * b1 + 65536 * b2 + 16777216 * b3
+
+-- the number at place i
+abbrev pub wordAt : List ℕ → ℕ → ℕ
+wordAt s i = word (byteAt s i) (byteAt s (i + 1)) (byteAt s (i + 2)) (byteAt s (i + 3))
 
 -- the integer that 32 bits stand for, and the bits of a 32-bit integer
 unfoldable pub signed32 : ℕ → ℤ

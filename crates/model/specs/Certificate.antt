@@ -135,6 +135,6 @@ certificateItems table r f z =
     ∷ item 24 (not (eqZ (weightIn z) (largest r f (valueOf r f z))))
     ∷ []
 
--- checking: 1 to 12 and 20 to 24; accepted is 0
+-- checking: the items of every call, 1 to 12 with 25 and 26, then 20 to 24; accepted is 0
 unfoldable pub checkOf : List ℕ → List ℕ → List ℕ → List ℕ → ℕ
 checkOf table r f z = firstOf (inputItems table r f ++ certificateItems table r f z)

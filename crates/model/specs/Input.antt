@@ -1,11 +1,12 @@
--- The match program's input: table, recorded tree and found tree, one after the other. Paper 01, "Small plants", last paragraph.
-use mathlib.Core.Bool.{cond}
+-- The match program's input: table, recorded tree and found tree, one after the other. Paper 01, "Small plants", last paragraph; paper 02, [3].
+use mathlib.Core.Bool.{Bool, _&&_, _||_, not, cond}
 use mathlib.Core.List.{List}
-use Prim.Native.Nat.{ℕ, _*_, _-_}
+use Prim.Native.Nat.{ℕ}
 use lib.ListN.{length, take, drop}
 use lib.Dec.{eqb}
+use Rattle.model.specs.Bytes.{isMark, vertexMark, serialMark}
 use Rattle.model.specs.Table.{tableLength}
-use Rattle.model.specs.Tree.{count}
+use Rattle.model.specs.Tree.{count, treeSize}
 
 -- "each takes the length its head names, or the rest if none can be known; the found layout takes all that remains"
 
@@ -17,9 +18,13 @@ tablePart input = take (tableLength input) input
 unfoldable pub afterTable : List ℕ → List ℕ
 afterTable input = drop (tableLength input) input
 
--- a tree's head names no length where its count is 0 or missing
+-- "The match program finds a layout's length from its head and its first device mark": none where the count is 0 or the mark is of neither kind, and so
+-- where one of them is cut off, of which the missing bytes are read as zeros
+unfoldable pub lengthKnown : List ℕ → Bool
+lengthKnown s = not (eqb (count s) 0) && (isMark s 3 vertexMark || isMark s 3 serialMark)
+
 unfoldable pub treeLength : List ℕ → ℕ
-treeLength s = cond (eqb (count s) 0) (length s) (8 * count s - 2)
+treeLength s = cond (lengthKnown s) (treeSize s (count s)) (length s)
 
 unfoldable pub recordedPart : List ℕ → List ℕ
 recordedPart input = take (treeLength (afterTable input)) (afterTable input)

@@ -67,7 +67,7 @@ workOk table recorded found work position = every (λ k. numberOk (vertexPair ta
 unfoldable pub isLeft : JobRecord → List ℕ → List ℕ → Bool
 isLeft j recorded found = ltb (j .position) (subproblems recorded found)
 
--- ---- the items of each call, in the order tested: start 1 to 13, advance 1 to 16, finish 1 to 18
+-- ---- the items of each call, in the order tested: start 1 to 13, advance 1 to 16, finish 1 to 18, each with 25 and 26
 
 abbrev pub startItems : List ℕ → List ℕ → List ℕ → List ℤ → List Item
 startItems table recorded found work = inputItems table recorded found ++ (workItem recorded found work ∷ [])

@@ -12,7 +12,8 @@ use Rattle.model.specs.Calls.{inputItem}
 use Rattle.model.specs.Certificate.{certificateLength}
 
 -- "From table and layouts alone, give the count of subproblems, the work numbers wanted and the sheet's length": what a job counts from its start to
--- its end, what item 13 asks for, and what item 19 asks for, each by the definition that the other calls have. "The tests are 1 to 12."
+-- its end, what item 13 asks for, and what item 19 asks for, each by the definition that the other calls have. "The tests are 1 to 12", and 25 and 26 with
+-- them ([3]: "Both stand in every call that tests 7 or 12").
 unfoldable pub sizesOf : List ℕ → List ℕ → List ℕ → SizesAnswer
 sizesOf table recorded found =
     cond (eqb (inputItem table recorded found) 0)

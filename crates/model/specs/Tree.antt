@@ -1,4 +1,5 @@
--- A tree's bytes: head, labels, edges, and the items 3 to 7 (8 to 12 for the found tree). The paper's layout; its devices are vertices, lines edges, kinds labels.
+-- A tree's bytes: head, labels, serials, edges, and the items 3 to 7 and 25 (8 to 12 and 26 for the found tree). The paper's layout; its devices are
+-- vertices, lines edges, kinds labels. Vertex records with a serial are those of paper 02, [3].
 use mathlib.Core.List.{List, [], _∷_}
 use Prim.Native.Nat.{ℕ, zero, suc, _+_, _*_, _-_}
 use mathlib.Core.Bool.{Bool, _&&_, _||_, cond, not}
@@ -6,7 +7,7 @@ use lib.ListN.{length}
 use lib.Dec.{eqb, ltb, leb}
 use Rattle.foundations.specs.Lists.{every}
 use Rattle.model.specs.Limits.{vertexLimit, degreeLimit}
-use Rattle.model.specs.Bytes.{byteAt, isMark, treeMark, vertexMark, edgeMark}
+use Rattle.model.specs.Bytes.{byteAt, isMark, wordAt, treeMark, vertexMark, serialMark, edgeMark}
 use Rattle.model.specs.Edges.{component}
 use Rattle.model.specs.Refusals.{Item, item, firstOf}
 
@@ -14,33 +15,56 @@ use Rattle.model.specs.Refusals.{Item, item, firstOf}
 abbrev pub count : List ℕ → ℕ
 count s = byteAt s 2
 
--- Of a tree of n vertices: where the record of vertex v and of edge j start. The head has 3 bytes, a vertex 3, an edge 5.
-abbrev pub vertexStart : ℕ → ℕ
-vertexStart v = 3 + 3 * v
+-- "A layout uses one kind of device record throughout": the mark of the first says which, and item 3 asks it of all. Neither mark counts as the
+-- shorter kind here, and item 3 refuses it.
+unfoldable pub withSerials : List ℕ → Bool
+withSerials s = isMark s 3 serialMark
 
-abbrev pub edgeStart : ℕ → ℕ → ℕ
-edgeStart n j = 3 + 3 * n + 5 * j
+-- the mark of a vertex record, and its bytes: mark and label, or mark, label and serial
+unfoldable pub vertexMarkOf : List ℕ → List ℕ
+vertexMarkOf s = cond (withSerials s) serialMark vertexMark
 
--- the label of vertex v; the two ends of edge j and its label
+unfoldable pub vertexSize : List ℕ → ℕ
+vertexSize s = cond (withSerials s) 7 3
+
+-- Of a tree of n vertices: where the record of vertex v and of edge j start. The head has 3 bytes, an edge 5.
+abbrev pub vertexStart : List ℕ → ℕ → ℕ
+vertexStart s v = 3 + vertexSize s * v
+
+abbrev pub edgeStart : List ℕ → ℕ → ℕ → ℕ
+edgeStart s n j = 3 + vertexSize s * n + 5 * j
+
+-- its length, with n - 1 edges: 8n - 2, and 12n - 2 with serials
+abbrev pub treeSize : List ℕ → ℕ → ℕ
+treeSize s n = (vertexSize s + 5) * n - 2
+
+-- the label of vertex v, and its serial, 0 where the records have none; the two ends of edge j and its label
 abbrev pub vertexLabel : List ℕ → ℕ → ℕ
-vertexLabel s v = byteAt s (5 + 3 * v)
+vertexLabel s v = byteAt s (vertexStart s v + 2)
+
+unfoldable pub serial : List ℕ → ℕ → ℕ
+serial s v = cond (withSerials s) (wordAt s (vertexStart s v + 3)) 0
+
+-- "0 is unknown"
+abbrev pub known : ℕ → Bool
+known x = not (eqb x 0)
 
 abbrev pub endA : List ℕ → ℕ → ℕ → ℕ
-endA s n j = byteAt s (5 + 3 * n + 5 * j)
+endA s n j = byteAt s (edgeStart s n j + 2)
 
 abbrev pub endB : List ℕ → ℕ → ℕ → ℕ
-endB s n j = byteAt s (6 + 3 * n + 5 * j)
+endB s n j = byteAt s (edgeStart s n j + 3)
 
 abbrev pub edgeLabelAt : List ℕ → ℕ → ℕ → ℕ
-edgeLabelAt s n j = byteAt s (7 + 3 * n + 5 * j)
+edgeLabelAt s n j = byteAt s (edgeStart s n j + 4)
 
--- ---- item 3: the length (8n - 2), a mark, or the count
+-- ---- item 3: the length, a mark, or the count
 
 unfoldable pub sized : List ℕ → Bool
-sized s = (leb 1 (count s) && leb (count s) vertexLimit) && eqb (length s + 2) (8 * count s)
+sized s = (leb 1 (count s) && leb (count s) vertexLimit) && eqb (length s) (treeSize s (count s))
 
 unfoldable pub marked : List ℕ → ℕ → Bool
-marked s n = isMark s 0 treeMark && (every (λ v. isMark s (vertexStart v) vertexMark) n && every (λ j. isMark s (edgeStart n j) edgeMark) (n - 1))
+marked s n = isMark s 0 treeMark && (every (λ v. isMark s (vertexStart s v) (vertexMarkOf s)) n && every (λ j. isMark s (edgeStart s n j) edgeMark) (n - 1))
 
 -- ---- item 4: a label that is not in a table of K and L labels
 
@@ -70,16 +94,26 @@ degree s n v (suc k) = degree s n v k + cond (eqb (endA s n k) v || eqb (endB s 
 unfoldable pub fewEdges : List ℕ → ℕ → Bool
 fewEdges s n = every (λ v. leb (degree s n v (n - 1)) degreeLimit) n
 
--- ---- the items in the order tested; `first` is 3 for the recorded tree and 8 for the found one
+-- ---- item 25 (26 for the found tree): a known serial stands twice
 
-abbrev pub treeItems : ℕ → List ℕ → ℕ → ℕ → List Item
-treeItems first s K L =
+-- that of vertex v stands at no vertex before it, or is unknown
+unfoldable pub serialNew : List ℕ → ℕ → Bool
+serialNew s v = not (known (serial s v)) || every (λ x. not (eqb (serial s x) (serial s v))) v
+
+unfoldable pub serialsDiffer : List ℕ → ℕ → Bool
+serialsDiffer s n = every (λ v. serialNew s v) n
+
+-- ---- the items in the order tested; `first` is 3 for the recorded tree and 8 for the found one, `twice` 25 and 26
+
+abbrev pub treeItems : ℕ → ℕ → List ℕ → ℕ → ℕ → List Item
+treeItems first twice s K L =
     item first (not (sized s && marked s (count s)))
     ∷ item (first + 1) (not (labelsKnown s (count s) K L))
     ∷ item (first + 2) (not (endsLow s (count s)))
     ∷ item (first + 3) (not (acyclic s (count s)))
     ∷ item (first + 4) (not (fewEdges s (count s)))
+    ∷ item twice (not (serialsDiffer s (count s)))
     ∷ []
 
-unfoldable pub treeItem : ℕ → List ℕ → ℕ → ℕ → ℕ
-treeItem first s K L = firstOf (treeItems first s K L)
+unfoldable pub treeItem : ℕ → ℕ → List ℕ → ℕ → ℕ → ℕ
+treeItem first twice s K L = firstOf (treeItems first twice s K L)

@@ -20,7 +20,7 @@ use Rattle.model.specs.Certificate.{certificateLength, weightIn, mapping
 abbrev pub roomItem : List ℕ → List ℕ → List ℕ → Item
 roomItem recorded found certificate = item 19 (ltb (length certificate) (certificateLength recorded found))
 
--- writing: 1 to 13 and 19
+-- writing: 1 to 13 with 25 and 26, and 19
 abbrev pub writeItems : List ℕ → List ℕ → List ℕ → List ℤ → List ℕ → List Item
 writeItems table recorded found work certificate = inputItems table recorded found ++ (workItem recorded found work ∷ roomItem recorded found certificate ∷ [])
 

@@ -1,4 +1,4 @@
--- The items of the match in one call: 1 to 13, then 18. Assumes nothing.
+-- The items of the match in one call: 1 to 13, 25 and 26, then 18. Assumes nothing.
 use mathlib.Core.Path.{_≡_}
 use mathlib.Core.Logic.{_≢_}
 use mathlib.Core.List.{List}

@@ -22,7 +22,7 @@ ghost use Rattle.model.specs.Match.{MatchCall};
 ghost use Rattle.plan.specs.Plan.{Ready, Lent};
 ghost use Rattle.one_call.specs.Call.{Solved};
 
-// The first of the items 1 to 13 and 18 that applies, 0 for none.
+// The first of the items 1 to 13, 18, 25 and 26 that applies, 0 for none.
 fn match_item(table: &[u8], recorded: &[u8], found: &[u8], work: &[i32], mapping: &[u8]) -> u8
     ensures { λ r. ⌜ r ≡ matchItem (now (table .entry)) (now (recorded .entry)) (now (found .entry)) (now (work .entry)) (now (mapping .entry)) ⌝ }
 {

@@ -14,13 +14,13 @@ use Rattle.foundations.specs.Tests.{same?}
 use Rattle.foundations.specs.Int.{up}
 use Rattle.foundations.specs.Members.{mem, mem-there, getD-mem}
 use Rattle.model.specs.Bytes.{int32At}
-use Rattle.model.specs.Limits.{vertexLimit, degreeLimit, pairLimit}
+use Rattle.model.specs.Limits.{forbidden, vertexLimit, degreeLimit, pairLimit}
 use Rattle.model.specs.Weights.{Weight, none, some, weighed, plusW, isForbidden, weightOk}
 use Rattle.model.specs.Table.{vertexLabels, edgeLabels, edgeWeight, vertexWeight, vertexRow, edgeRow, column}
-use Rattle.model.specs.Tree.{count, vertexLabel, endA, endB, edgeLabelAt}
+use Rattle.model.specs.Tree.{count, vertexLabel, serial, endA, endB, edgeLabelAt}
 use Rattle.model.specs.Graph.{edges, joins, edgeBefore, neighbours, edgeLabel}
 use Rattle.model.specs.Order.{children, choices, width, index, subproblems}
-use Rattle.model.specs.Pairs.{vertexPair, edgePair}
+use Rattle.model.specs.Pairs.{apart, vertexPair, edgePair}
 use Rattle.model.specs.Values.{branch}
 use Rattle.trees.specs.Accepted.{Passed, edge-known, vertex-known}
 use Rattle.trees.specs.Neighbours.{Adjacent, mem-adjacent, adjacent-mem, adjacent-back, few-neighbours, edge-joins}
@@ -38,10 +38,14 @@ pub record VertexPair (table r f : List ℕ) (u v : ℕ) (w : ℤ) : Type 0 wher
   pub is : vertexPair table r f u v ≡ weighed w
   pub ok : weightOk w ≡ true
 
-pub vertex-pair : (table r f : List ℕ) → Accepted table r f → (u v i j : ℕ) (w : ℤ) → u < count r → v < count f → i ≡ vertexLabel r u → j ≡ vertexLabel f v → w ≡ int32At table (column (vertexRow table i) j) → VertexPair table r f u v w
+pub pair-apart : (table r f : List ℕ) (u v : ℕ) → apart (serial r u) (serial f v) ≡ true → VertexPair table r f u v forbidden
+unfolding vertexPair weighed isForbidden weightOk
+pair-apart table r f u v e = record { is = rw e; ok = refl }
+
+pub vertex-pair : (table r f : List ℕ) → Accepted table r f → (u v i j : ℕ) (w : ℤ) → u < count r → v < count f → apart (serial r u) (serial f v) ≡ false → i ≡ vertexLabel r u → j ≡ vertexLabel f v → w ≡ int32At table (column (vertexRow table i) j) → VertexPair table r f u v w
 unfolding vertexPair vertexWeight
-vertex-pair table r f A u v i j w lu lv ei ej e = record {
-  is = rw (e, ei, ej);
+vertex-pair table r f A u v i j w lu lv h ei ej e = record {
+  is = rw (h, e, ei, ej);
   ok = rw (e, ei, ej) (A .weights .vertex-ok (vertexLabel r u) (vertexLabel f v) (vertex-known r _ _ u (A .recorded) lu) (vertex-known f _ _ v (A .found) lv));
 }
 

@@ -92,7 +92,7 @@ pub record Planned (r f : List ℕ) (plan : List (List ℕ)) : Type 0 where
 
 -- ---- what functions over a plan ask
 
--- inputs that items 1 to 12 let pass, and their plan
+-- inputs that items 1 to 12, 25 and 26 let pass, and their plan
 pub record Ready (table r f : List ℕ) (plan : List (List ℕ)) : Type 0 where
   pub passes : inputItem table r f ≡ 0
   pub planned : Planned r f plan

@@ -1,4 +1,4 @@
--- The steps of reading out in the terms of the code, for inputs that items 1 to 12 let pass. Assumes nothing.
+-- The steps of reading out in the terms of the code, for inputs that items 1 to 12, 25 and 26 let pass. Assumes nothing.
 use mathlib.Core.Path.{_≡_, sym, ap, _∙_, subst}
 use mathlib.Core.Logic.{_≢_}
 use mathlib.Core.List.{List, _++_}

@@ -191,7 +191,7 @@ pub solves-fits : (table r f : List ℕ) (work : List ℤ) → Solves table r f 
 unfolding valueFrom
 solves-fits table r f work S u v s h e = S u v s h ∙ ap (λ (w : Weight). plusW w (best (branch table r f (recalled r f work) u v) (children r u) (del s (neighbours f v)))) e
 
--- ---- for inputs that items 1 to 12 let pass
+-- ---- for inputs that items 1 to 12, 25 and 26 let pass
 
 module _ (table r f : List ℕ) (passes : inputItem table r f ≡ 0) (work : List ℤ) (u v : ℕ) (p : List ℕ) (lu : u < count r) (lv : v < count f) (R : Read table r f work u v v (replicate (count r) noVertex) p) where
   -- what is read out is a mapping, whatever the numbers at allowed pairs

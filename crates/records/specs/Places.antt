@@ -47,7 +47,7 @@ pub record PlacesTo (r f : List ℕ) (n : ℕ) (places : List (List ℕ)) : Type
 
 -- ---- what the functions require
 
--- two trees that pass items 1 to 12 with some table, and their plan
+-- two trees that pass items 1 to 12, 25 and 26 with some table, and their plan
 pub record Inputs (r f : List ℕ) (plan : List (List ℕ)) : Type 0 where
   pub table : List ℕ
   pub ready : Ready table r f plan

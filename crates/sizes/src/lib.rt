@@ -45,7 +45,7 @@ fn certificate_length(recorded: &[u8], found: &[u8]) -> usize
 }
 
 // Entry point.
-// How much to lend for the two trees under the table, where none of the items 1 to 12 applies.
+// How much to lend for the two trees under the table, where none of the items 1 to 12, 25 and 26 applies.
 pub fn sizes(table: &[u8], recorded: &[u8], found: &[u8]) -> SizesAnswer
     ensures { λ r. ⌜ SizesCall (now (table .entry)) (now (recorded .entry)) (now (found .entry)) r ⌝ }
 {

@@ -1,4 +1,4 @@
--- The theorems over bytes, for every table and two trees that items 1 to 12 let pass. Each statement has only definitions of `model`.
+-- The theorems over bytes, for every table and two trees that items 1 to 12, 25 and 26 let pass. Each statement has only definitions of `model`.
 -- Assumes nothing.
 use mathlib.Core.Path.{_≡_, sym, _∙_}
 use mathlib.Core.Logic.{_⊎_, _≢_, _↔_}

@@ -18,9 +18,9 @@ use Rattle.model.specs.Graph.{neighbours, edgeOf, edgeLabel}
 use Rattle.model.specs.Limits.{weightLimit, forbiddenRank, ceiling, vertexLimit}
 use Rattle.model.specs.Mapping.{partner, mapped, IsMapping, weight}
 use Rattle.model.specs.Order.{parent, depth, children}
-use Rattle.model.specs.Pairs.{vertexPair, edgePair}
+use Rattle.model.specs.Pairs.{apart, vertexPair, edgePair}
 use Rattle.model.specs.Table.{vertexRow, edgeRow, column, vertexWeight, edgeWeight}
-use Rattle.model.specs.Tree.{count, vertexLabel}
+use Rattle.model.specs.Tree.{count, vertexLabel, serial}
 use Rattle.model.specs.Values.{best, branch, valueFrom, Subproblem, value}
 use Rattle.model.specs.Weights.{isForbidden, inRange, weightOk, Weight, none, some, weighed, plusW}
 use Rattle.trees.specs.Accepted.{Passed, vertex-known, edge-known}
@@ -61,6 +61,11 @@ label-known : (s : List ℕ) (K L x y : ℕ) → Passed s K L → Adjacent s x y
 unfolding edgeLabel
 label-known s K L x y p a = edge-known s K L (edgeOf s x y) p (edge-joins s x y a .0)
 
+-- a number that is given unless it is forbidden
+unless-none : (t : Bool) (w : Weight) (z : ℤ) → cond t none w ≡ some z → w ≡ some z
+unless-none true w z e = absurd (none≢some z e)
+unless-none false w z e = e
+
 module _ (table r f : List ℕ) (A : Accepted table r f) where
   abbrev tr : IsTree r
   tr = recorded-tree A
@@ -74,7 +79,8 @@ module _ (table r f : List ℕ) (A : Accepted table r f) where
   pub vertex-range : (u v : ℕ) → u < count r → v < count f → (z : ℤ) → vertexPair table r f u v ≡ some z → (negℤ (pos weightLimit) ≤ℤ z) × (z ≤ℤ pos weightLimit)
   unfolding vertexPair vertexWeight
   vertex-range u v lu lv z e = weighed-range (int32At table (column (vertexRow table (vertexLabel r u)) (vertexLabel f v))) z
-      (A .weights .vertex-ok (vertexLabel r u) (vertexLabel f v) (vertex-known r _ _ u (A .recorded) lu) (vertex-known f _ _ v (A .found) lv)) e
+      (A .weights .vertex-ok (vertexLabel r u) (vertexLabel f v) (vertex-known r _ _ u (A .recorded) lu) (vertex-known f _ _ v (A .found) lv))
+      (unless-none (apart (serial r u) (serial f v)) _ z e)
 
   pub edge-range : (u c v x : ℕ) → Adjacent r u c → Adjacent f v x → (z : ℤ) → edgePair table r f u c v x ≡ some z → (negℤ (pos weightLimit) ≤ℤ z) × (z ≤ℤ pos weightLimit)
   unfolding edgePair edgeWeight

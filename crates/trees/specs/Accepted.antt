@@ -1,4 +1,4 @@
--- What items 3 to 7 say of a tree's bytes: as records for what a pass of each gives, and item 6 as the paper's sentence. Assumes nothing.
+-- What items 3 to 7 and 25 say of a tree's bytes: as records for what a pass of each gives, and item 6 as the paper's sentence. Assumes nothing.
 use mathlib.Core.Path.{_≡_, refl, sym, ap, _∙_}
 use mathlib.Core.Logic.{inr, ⊎-elim, _↔_}
 use mathlib.Core.Bool.{Bool, true, false, not, _&&_, true≢false}
@@ -12,7 +12,7 @@ use Rattle.foundations.specs.Tests.{and-split, not-says, is-false}
 use Rattle.foundations.specs.Lists.{every, every-at, every-fails}
 use Rattle.model.specs.Limits.{vertexLimit}
 use Rattle.model.specs.Edges.{Closes, component}
-use Rattle.model.specs.Tree.{count, vertexLabel, endA, endB, edgeLabelAt, sized, marked, labelsKnown, endsLow, closes, acyclic, fewEdges, treeItems, treeItem}
+use Rattle.model.specs.Tree.{count, withSerials, vertexSize, treeSize, vertexLabel, endA, endB, edgeLabelAt, sized, marked, labelsKnown, endsLow, closes, acyclic, fewEdges, serialsDiffer, treeItems, treeItem}
 use Rattle.trees.specs.Items.{Numbered, end, more, first-zero}
 use Rattle.trees.specs.Components.{AllFresh, component-walk, walk-component}
 
@@ -21,12 +21,12 @@ use Rattle.trees.specs.Components.{AllFresh, component-walk, walk-compon
 pub record Whole (s : List ℕ) (n : ℕ) : Type 0 where
   pub some : 1 ≤ n
   pub few : n ≤ vertexLimit
-  pub long : length s ≡ 8 * n - 2
+  pub long : length s ≡ treeSize s n
 
 pub record Ends (s : List ℕ) (n : ℕ) : Type 0 where
   pub some : 1 ≤ n
   pub few : n ≤ vertexLimit
-  pub long : length s ≡ 8 * n - 2
+  pub long : length s ≡ treeSize s n
   pub low : (j : ℕ) → j < n - 1 → (endA s n j < n) × (endB s n j < n)
 
 pub whole : {s : List ℕ} {n : ℕ} → Ends s n → Whole s n
@@ -35,10 +35,36 @@ whole e = record { some = e .some; few = e .few; long = e .long }
 pub sized-says : (s : List ℕ) → sized s ≡ true → Whole s (count s)
 unfolding sized
 sized-says s h =
-    let a = and-split (leb 1 (count s) && leb (count s) vertexLimit) (eqb (length s + 2) (8 * count s)) h in
+    let a = and-split (leb 1 (count s) && leb (count s) vertexLimit) (eqb (length s) (treeSize s (count s))) h in
     let b = and-split (leb 1 (count s)) (leb (count s) vertexLimit) (a .0) in
-    let c : length s + 2 ≡ 8 * count s = eqb-true (length s + 2) (8 * count s) (a .1) in
-    record { some = leb-true 1 (count s) (b .0); few = leb-true (count s) vertexLimit (b .1); long = omega arith }
+    record { some = leb-true 1 (count s) (b .0); few = leb-true (count s) vertexLimit (b .1); long = eqb-true (length s) (treeSize s (count s)) (a .1) }
+
+-- ---- the two kinds of vertex records
+
+pub size-with : (s : List ℕ) → withSerials s ≡ true → vertexSize s ≡ 7
+unfolding vertexSize
+size-with s e = rw e
+
+pub size-without : (s : List ℕ) → withSerials s ≡ false → vertexSize s ≡ 3
+unfolding vertexSize
+size-without s e = rw e
+
+pub long-with : {s : List ℕ} {n : ℕ} → Whole s n → withSerials s ≡ true → length s ≡ 12 * n - 2
+long-with {s} w e = w .long ∙ rw (size-with s e)
+
+pub long-without : {s : List ℕ} {n : ℕ} → Whole s n → withSerials s ≡ false → length s ≡ 8 * n - 2
+long-without {s} w e = w .long ∙ rw (size-without s e)
+
+-- the first vertex record is there
+pub long-some : {s : List ℕ} {n : ℕ} → Whole s n → 6 ≤ length s
+long-some {s} {n} w = go (withSerials s) refl
+  where
+    one : 1 ≤ n
+    one = w .some
+
+    go : (t : Bool) → withSerials s ≡ t → 6 ≤ length s
+    go true e = let l = long-with w e in omega (arith, one)
+    go false e = let l = long-without w e in omega (arith, one)
 
 pub ends-say : (s : List ℕ) (n : ℕ) → Whole s n → endsLow s n ≡ true → Ends s n
 unfolding endsLow
@@ -83,7 +109,7 @@ pub acyclic-fresh : (s : List ℕ) (n : ℕ) → acyclic s n ≡ true → AllFre
 unfolding acyclic closes
 acyclic-fresh s n h j l = eqb-false _ _ (not-says _ (every-at (λ j. not (closes s n j)) j (n - 1) h l))
 
--- ---- a tree that items 3 to 7 let pass
+-- ---- a tree that items 3 to 7 and 25 let pass
 
 pub record Passed (s : List ℕ) (K L : ℕ) : Type 0 where
   pub ends : Ends s (count s)
@@ -91,6 +117,7 @@ pub record Passed (s : List ℕ) (K L : ℕ) : Type 0 where
   pub labels : labelsKnown s (count s) K L ≡ true
   pub tree : acyclic s (count s) ≡ true
   pub degrees : fewEdges s (count s) ≡ true
+  pub serials : serialsDiffer s (count s) ≡ true
 
 -- a tree that passes for some numbers of labels
 pub record Sound (s : List ℕ) : Type 0 where
@@ -98,19 +125,20 @@ pub record Sound (s : List ℕ) : Type 0 where
   pub L : ℕ
   pub passed : Passed s K L
 
-pub tree-numbered : (first : ℕ) (s : List ℕ) (K L : ℕ) → 1 ≤ first → Numbered (treeItems first s K L)
-tree-numbered first s K L h = more h (more {k = first + 1} (omega arith) (more {k = first + 2} (omega arith) (more {k = first + 3} (omega arith) (more {k = first + 4} (omega arith) end))))
+pub tree-numbered : (first twice : ℕ) (s : List ℕ) (K L : ℕ) → 1 ≤ first → 1 ≤ twice → Numbered (treeItems first twice s K L)
+tree-numbered first twice s K L h g = more h (more {k = first + 1} (omega arith) (more {k = first + 2} (omega arith) (more {k = first + 3} (omega arith) (more {k = first + 4} (omega arith) (more g end)))))
 
-pub tree-passed : (first : ℕ) (s : List ℕ) (K L : ℕ) → 1 ≤ first → treeItem first s K L ≡ 0 → Passed s K L
+pub tree-passed : (first twice : ℕ) (s : List ℕ) (K L : ℕ) → 1 ≤ first → 1 ≤ twice → treeItem first twice s K L ≡ 0 → Passed s K L
 unfolding treeItem
-tree-passed first s K L one h =
+tree-passed first twice s K L one two h =
     let a = first-zero (sized s && marked s (count s)) first _ one h in
     let b = first-zero (labelsKnown s (count s) K L) (first + 1) _ (omega arith) (a .1) in
     let c = first-zero (endsLow s (count s)) (first + 2) _ (omega arith) (b .1) in
     let d = first-zero (acyclic s (count s)) (first + 3) _ (omega arith) (c .1) in
     let e = first-zero (fewEdges s (count s)) (first + 4) _ (omega arith) (d .1) in
-    let f = and-split (sized s) (marked s (count s)) (a .0) in
-    record { ends = ends-say s (count s) (sized-says s (f .0)) (c .0); marks = f .1; labels = b .0; tree = d .0; degrees = e .0 }
+    let f = first-zero (serialsDiffer s (count s)) twice _ two (e .1) in
+    let g = and-split (sized s) (marked s (count s)) (a .0) in
+    record { ends = ends-say s (count s) (sized-says s (g .0)) (c .0); marks = g .1; labels = b .0; tree = d .0; degrees = e .0; serials = f .0 }
 
 -- each label is in the table
 pub vertex-known : (s : List ℕ) (K L v : ℕ) → Passed s K L → v < count s → vertexLabel s v < K

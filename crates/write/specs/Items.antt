@@ -1,4 +1,4 @@
--- The items of writing a certificate: 1 to 13, then 19. Assumes nothing.
+-- The items of writing a certificate: 1 to 13, 25 and 26, then 19. Assumes nothing.
 use mathlib.Core.Path.{_≡_}
 use mathlib.Core.Logic.{_≢_}
 use mathlib.Core.List.{List}

@@ -47,7 +47,7 @@ fn solve_and_write(
 }
 
 // Entry point.
-// A certificate for the two trees under the table, in the front of `certificate`; all values in order in `work`. Where one of the items 1 to 13 and 19
+// A certificate for the two trees under the table, in the front of `certificate`; all values in order in `work`. Where one of the items 1 to 13, 19, 25 and 26
 // applies, nothing is written.
 pub fn write_certificate(
     table: &[u8],

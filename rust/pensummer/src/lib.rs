@@ -40,8 +40,8 @@ pub const FORBIDDEN: i32 = i32::MIN;
 pub const NONE: u8 = 255;
 /// A table is never longer, in bytes.
 pub const TABLE_MOST: usize = 4 + rows(VERTEX_LABELS_MOST) + rows(EDGE_LABELS_MOST);
-/// A tree is never longer, in bytes.
-pub const TREE_MOST: usize = 8 * VERTICES_MOST - 2;
+/// A tree is never longer, in bytes: with serials; without them it has 8n - 2.
+pub const TREE_MOST: usize = 12 * VERTICES_MOST - 2;
 /// There are never more subproblems, and so never more work numbers to lend.
 pub const WORK_MOST: usize = VERTICES_MOST * (3 * VERTICES_MOST - 2);
 /// A certificate is never longer, in bytes.
@@ -98,15 +98,15 @@ macro_rules! lend {
     };
 }
 
-/// How much to lend for this table and these trees, so that memory can be set aside first. Tests the items 1 to 12.
-/// Solves nothing. A mapping takes n bytes.
+/// How much to lend for this table and these trees, so that memory can be set aside first. Tests the items 1 to 12,
+/// 25 and 26. Solves nothing. A mapping takes n bytes.
 pub fn sizes(i: Inputs) -> Result<Sizes, Refusal> {
     let r = lend!(pensummer_sizes, [], i, []);
     result(r.refusal, Sizes { subproblems: r.subproblems, work: r.work as usize, certificate: r.certificate as usize })
 }
 
-/// The match in one call: a heaviest mapping in the first n bytes of `mapping`, and its weight. Tests the items 1 to 13
-/// and 18. The first n(3m - 2) work numbers are left with the values of all subproblems; a refused call changes
+/// The match in one call: a heaviest mapping in the first n bytes of `mapping`, and its weight. Tests the items 1 to 13,
+/// 18, 25 and 26. The first n(3m - 2) work numbers are left with the values of all subproblems; a refused call changes
 /// nothing.
 pub fn match_trees(i: Inputs, work: &mut [i32], mapping: &mut [u8]) -> Result<i32, Refusal> {
     let r = lend!(pensummer_match, [], i, [work.as_mut_ptr(), work.len(), mapping.as_mut_ptr(), mapping.len()]);
@@ -119,35 +119,36 @@ impl Job {
         unsafe { ffi::pensummer_fresh() }
     }
 
-    /// Begins a job, also over an earlier one. Tests the items 1 to 13. Changes no work number.
+    /// Begins a job, also over an earlier one. Tests the items 1 to 13, 25 and 26. Changes no work number.
     pub fn start(&mut self, i: Inputs, work: &[i32]) -> Result<(), Refusal> {
         let refusal = lend!(pensummer_start, [self], i, [work.as_ptr(), work.len()]);
         result(refusal, ())
     }
 
     /// Solves the smaller of `budget` and what is left, and gives that count: so many work numbers are filled, from the
-    /// position on. Tests the items 1 to 16.
+    /// position on. Tests the items 1 to 16, 25 and 26.
     pub fn advance(&mut self, i: Inputs, budget: u32, work: &mut [i32]) -> Result<u32, Refusal> {
         let r = lend!(pensummer_advance, [self], i, [budget, work.as_mut_ptr(), work.len()]);
         result(r.refusal, r.count)
     }
 
     /// Reads the mapping of a job whose subproblems are all solved into the first n bytes of `mapping`, and gives its
-    /// exact weight. Over memory that only this job's calls have changed it is a heaviest one. Tests the items 1 to 18.
+    /// exact weight. Over memory that only this job's calls have changed it is a heaviest one. Tests the items 1 to 18,
+    /// 25 and 26.
     pub fn finish(&self, i: Inputs, work: &[i32], mapping: &mut [u8]) -> Result<i32, Refusal> {
         let r = lend!(pensummer_finish, [self], i, [work.as_ptr(), work.len(), mapping.as_mut_ptr(), mapping.len()]);
         result(r.refusal, r.weight)
     }
 }
 
-/// Writes a certificate into the front of `certificate`, and gives its length. Tests the items 1 to 13 and 19. The
-/// first n(3m - 2) work numbers are left with the values of all subproblems.
+/// Writes a certificate into the front of `certificate`, and gives its length. Tests the items 1 to 13, 19, 25 and
+/// 26. The first n(3m - 2) work numbers are left with the values of all subproblems.
 pub fn write_certificate(i: Inputs, work: &mut [i32], certificate: &mut [u8]) -> Result<usize, Refusal> {
     let r = lend!(pensummer_write, [], i, [work.as_mut_ptr(), work.len(), certificate.as_mut_ptr(), certificate.len()]);
     result(r.refusal, r.length as usize)
 }
 
-/// Checks a certificate, whoever wrote it. Tests the items 1 to 12 and 20 to 24. Where it is accepted, the mapping in
+/// Checks a certificate, whoever wrote it. Tests the items 1 to 12 and 20 to 26. Where it is accepted, the mapping in
 /// it is a heaviest one and the weight in it is that mapping's.
 pub fn check_certificate(i: Inputs, certificate: &[u8]) -> Result<(), Refusal> {
     let refusal = lend!(pensummer_check, [], i, [certificate.as_ptr(), certificate.len()]);

@@ -1,11 +1,12 @@
-//! Why a call was refused: the number of paper 01's item, and a sentence.
+//! Why a call was refused: the number of the papers' item, and a sentence.
 use core::fmt;
 
-/// Why a call was refused. A call tests its items in order and gives the first that applies.
+/// Why a call was refused. A call tests its items in order, which is that of the numbers but for 25 and 26: the one is
+/// tested after 7, the other after 12. It gives the first that applies.
 #[derive(Clone, Copy, Debug, PartialEq, Eq, PartialOrd, Ord, Hash)]
 pub struct Refusal(u32);
 
-/// Names the items in order from 1, each with its sentence.
+/// Names the items by number from 1, each with its sentence.
 macro_rules! items {
     ($($name:ident = $number:literal, $sentence:literal;)*) => {
         impl Refusal {
@@ -44,6 +45,8 @@ items! {
     CERTIFICATE_WEIGHT = 22, "the certificate's weight is not its mapping's";
     CERTIFICATE_RECORD = 23, "a subproblem record of the certificate breaks a rule";
     CERTIFICATE_ANSWER = 24, "the certificate's weight is not the greater of 0 and its largest value with s = v";
+    RECORDED_SERIAL = 25, "a known serial stands twice in the recorded tree";
+    FOUND_SERIAL = 26, "a known serial stands twice in the found tree";
 }
 
 impl Refusal {

@@ -10,12 +10,13 @@ macro_rules! named {
     ($($name:ident)*) => { [$((stringify!($name), Refusal::$name)),*] };
 }
 
-const ITEMS: [(&str, Refusal); 24] = named! {
+const ITEMS: [(&str, Refusal); 26] = named! {
     TABLE_FORM TABLE_WEIGHT
     RECORDED_FORM RECORDED_LABEL RECORDED_END RECORDED_LOOP RECORDED_DEGREE
     FOUND_FORM FOUND_LABEL FOUND_END FOUND_LOOP FOUND_DEGREE
     WORK_SHORT JOB_RECORD JOB_TREES WORK_NUMBER JOB_UNFINISHED MAPPING_SHORT
     CERTIFICATE_SHORT CERTIFICATE_FORM CERTIFICATE_MAPPING CERTIFICATE_WEIGHT CERTIFICATE_RECORD CERTIFICATE_ANSWER
+    RECORDED_SERIAL FOUND_SERIAL
 };
 
 const LIMITS: [(&str, i64); 12] = [
@@ -116,17 +117,17 @@ fn values() -> BTreeMap<String, i64> {
 #[test]
 fn every_item_has_its_name_here() {
     assert_eq!(ITEMS.map(|(_, item)| item), Refusal::ALL);
-    assert_eq!(Refusal::ALL.map(Refusal::number).to_vec(), (1..=24).collect::<Vec<u32>>());
+    assert_eq!(Refusal::ALL.map(Refusal::number).to_vec(), (1..=26).collect::<Vec<u32>>());
 }
 
 #[test]
 fn every_item_has_its_sentence() {
-    let none = Refusal::of(25).unwrap().sentence();
+    let none = Refusal::of(27).unwrap().sentence();
     let mut sentences: Vec<&str> = Refusal::ALL.map(Refusal::sentence).to_vec();
     assert!(sentences.iter().all(|sentence| *sentence != none && !sentence.is_empty() && !sentence.ends_with('.')));
     sentences.sort();
     sentences.dedup();
-    assert_eq!(sentences.len(), 24);
+    assert_eq!(sentences.len(), 26);
 }
 
 /// The header has exactly the crate's limits and items, with their values.

@@ -1,4 +1,4 @@
--- `check_front` meets its contract: the items 1 to 12, then the plan is made and handed to the items 20 to 22. Assumes nothing.
+-- `check_front` meets its contract: the items 1 to 12, 25 and 26, then the plan is made and handed to the items 20 to 22. Assumes nothing.
 use mathlib.Core.Path.{_≡_, sym, _∙_, refl}
 use Prim.Native.Nat.{_≤_}
 use native.Mathlib.Omega.{arith}
@@ -11,7 +11,7 @@ use Rattle.check_front.specs.Steps.{checked-input, checked-later}
 use Rattle.check_front.proofs.check_front.Statement.{statement}
 use Rattle.check_front.proofs.check_front.Tie as tie
 
--- none of the items 1 to 12 applies
+-- none of the items 1 to 12, 25 and 26 applies
 module _ (c : tie.Else1) where
   abbrev start : tie.Start
   start = c .before .before .before .before .before .before

@@ -1,4 +1,4 @@
--- `early_item` tests 1 to 13, then the record, then its counts. Assumes nothing.
+-- `early_item` tests 1 to 13, 25 and 26, then the record, then its counts. Assumes nothing.
 use mathlib.Core.Path.{_≡_, sym, _∙_}
 use borrow.Author.Needs.{needs}
 use Rattle.foundations.specs.Tests.{not-says, passed}
@@ -7,7 +7,7 @@ use Rattle.job_items.specs.Items.{early-start, early-record, early-trees
 use Rattle.job_items.proofs.early_item.Statement.{statement}
 use Rattle.job_items.proofs.early_item.Tie as tie
 
--- no item of 1 to 13 applies
+-- no item of 1 to 13, 25 and 26 applies
 passes : (c : tie.Else1) →
     let a = c .before .before .before .before .before .args in
     startItem (a .table .now) (a .recorded .now) (a .found .now) (a .work .now) ≡ 0

@@ -1,4 +1,4 @@
--- `start_item` tests 1 to 12, then the room for work numbers. Assumes nothing.
+-- `start_item` tests 1 to 12, 25 and 26, then the room for work numbers. Assumes nothing.
 use mathlib.Core.Path.{_≡_, sym, _∙_}
 use native.Mathlib.Omega.{arith}
 use borrow.Author.Needs.{needs}
@@ -8,7 +8,7 @@ use Rattle.job_items.specs.Items.{start-input, start-work, start-none}
 use Rattle.job_items.proofs.start_item.Statement.{statement}
 use Rattle.job_items.proofs.start_item.Tie as tie
 
--- no item of 1 to 12 applies
+-- no item of 1 to 12, 25 and 26 applies
 passes : (c : tie.Else1) →
     let a = c .before .before .before .before .before .args in
     inputItem (a .table .now) (a .recorded .now) (a .found .now) ≡ 0

@@ -1,4 +1,4 @@
--- `match_item` tests 1 to 13, then the room for the mapping. Assumes nothing.
+-- `match_item` tests 1 to 13, 25 and 26, then the room for the mapping. Assumes nothing.
 use mathlib.Core.Path.{_≡_, sym, _∙_}
 use native.Mathlib.Omega.{arith}
 use borrow.Author.Needs.{needs}
@@ -10,7 +10,7 @@ use Rattle.one_call.specs.Items.{match-start, match-mapping, match-none}
 use Rattle.one_call.proofs.match_item.Statement.{statement}
 use Rattle.one_call.proofs.match_item.Tie as tie
 
--- no item of 1 to 13 applies
+-- no item of 1 to 13, 25 and 26 applies
 passes : (c : tie.Else1) →
     let a = c .before .before .before .before .before .before .args in
     startItem (a .table .now) (a .recorded .now) (a .found .now) (a .work .now) ≡ 0

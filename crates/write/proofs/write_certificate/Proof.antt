@@ -20,7 +20,7 @@ use borrow.Author.Needs.{needs}
 use Rattle.write.proofs.write_certificate.Statement.{statement}
 use Rattle.write.proofs.write_certificate.Tie as tie
 
--- none of the items 1 to 13 applies
+-- none of the items 1 to 13, 25 and 26 applies
 zero : (c : tie.Else1) → let a = c .before .before .before .before .before .before .before .args in startItem (a .table .now) (a .recorded .now) (a .found .now) (a .work .now) ≡ 0
 zero c = let z : c .before .start-item .result ≡ 0 = search needs in sym (c .before .start-item .ensures) ∙ z
 

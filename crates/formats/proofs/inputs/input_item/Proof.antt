@@ -15,7 +15,7 @@ table-zero c = let z : c .before .table-item .result ≡ 0 = search needs in sym
 -- the recorded tree's item, by the table's numbers of labels
 recorded-item : (c : tie.After-tree-item) →
     let a = c .before .before .before .before .before .before .before .before .args in
-    c .tree-item .result ≡ treeItem 3 (a .recorded .now) (vertexLabels (a .table .now)) (edgeLabels (a .table .now))
+    c .tree-item .result ≡ treeItem 3 25 (a .recorded .now) (vertexLabels (a .table .now)) (edgeLabels (a .table .now))
 recorded-item c = c .tree-item .ensures ∙ rw (c .before .before .vertex-labels .ensures, c .before .edge-labels .ensures)
 
 table-item-requires : tie.Need-table-item-requires

@@ -1,30 +1,46 @@
 -- `tree_length` meets its contract. Assumes nothing.
-use borrow.Author.Tests.{ne-eqb}
-use Rattle.model.specs.Input.{treeLength}
+use mathlib.Core.Path.{_≡_, sym, _∙_}
+use mathlib.Core.Bool.{false}
+use Prim.Native.Nat.{_≤_, _<_}
+use lib.ListN.{length}
+use Rattle.foundations.specs.Tests.{not-says, passed}
+use Rattle.model.specs.Tree.{count}
+use Rattle.model.specs.Input.{lengthKnown, treeLength}
+use Rattle.formats.specs.Split.{length-says}
+use native.Mathlib.Omega.{arith}
 use borrow.Author.Needs.{needs}
 use Rattle.formats.proofs.split.tree_length.Statement.{statement}
 use Rattle.formats.proofs.split.tree_length.Tie as tie
 
-byte-or-zero-requires : tie.Need-byte-or-zero-requires
-byte-or-zero-requires c κs = search needs
+-- what a known length says
+says : (c : tie.Else1) → (4 < length (c .before .before .before .args .s .now)) × (1 ≤ count (c .before .before .before .args .s .now))
+says c = length-says _ (passed _ _ (c .before .is-length-known .ensures) (c .if1 .left))
 
-cast-n : tie.Need-cast-n
-cast-n c = search needs
-
-mul-result : tie.Need-mul-result
-mul-result c = search needs
-
-sub-result : tie.Need-sub-result
-sub-result c = search needs
+is-length-known-requires : tie.Need-is-length-known-requires
+is-length-known-requires c κs = search needs
 
 returns : tie.Need-returns
 unfolding treeLength
-returns c = rw (← c .before .byte-or-zero .ensures, c .if1 .taken)
+returns c =
+    let e : lengthKnown (c .before .before .before .args .s .now) ≡ false = sym (c .before .is-length-known .ensures) ∙ not-says _ (c .if1 .taken) in
+    rw e
+
+shared-slice-read-tree-size : tie.Need-shared-slice-read-tree-size
+shared-slice-read-tree-size c = omega (arith, says (c .before) .0)
+
+tree-size-requires : tie.Need-tree-size-requires
+tree-size-requires c κs = (omega (arith, says (c .before) .0), says (c .before) .1)
 
 returns-2 : tie.Need-returns-2
 unfolding treeLength
-returns-2 c = rw (← c .before .byte-or-zero .ensures, ne-eqb _ 0 (c .if1 .left))
+returns-2 c = rw (passed _ _ (c .before .before .before .is-length-known .ensures) (c .before .before .if1 .left)) (c .tree-size .ensures)
 
 pub tree-length-spec : {M : Type 1} → statement M
 tree-length-spec =
-    tie.close (tie.spec byte-or-zero-requires cast-n mul-result sub-result returns returns-2)
+    tie.close
+    (tie.spec
+    is-length-known-requires
+    returns
+    shared-slice-read-tree-size
+    tree-size-requires
+    returns-2)

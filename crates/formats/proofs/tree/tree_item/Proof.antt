@@ -52,7 +52,7 @@ returns-3 c =
     let n = c .before .before .before in
     let a = n .before .before .before .before .args in
     first-yes _ (c .before .before .is-marked .result) 3 (c .item-from-4 .result) _ (shaped (a .s .now) (n .before .before .is-sized .result) (c .before .before .is-marked .result) (n .vertex-count .result) (n .before .before .is-sized .ensures) (n .before .if1 .left) (n .vertex-count .ensures) (c .before .before .is-marked .ensures)) (c .before .if2 .left)
-    (c .item-from-4 .ensures ∙ ap (λ (m : ℕ). firstOf (itemsFrom4 3 (a .s .now) m (a .k) (a .l))) (n .vertex-count .ensures))
+    (c .item-from-4 .ensures ∙ ap (λ (m : ℕ). firstOf (itemsFrom4 3 25 (a .s .now) m (a .k) (a .l))) (n .vertex-count .ensures))
 
 pub tree-item-spec : {M : Type 1} → statement M
 tree-item-spec =
