@@ -72,7 +72,7 @@ fn pair_ok(
     ensures { λ r. ⌜ r ≡ every (λ q. inRow (now (table .entry)) (now (recorded .entry)) (now (found .entry)) (now (certificate .entry)) i (offset (now (found .entry)) v + q)) (length (neighbours (now (found .entry)) v) + 1) ⌝ }
 {
     let u = in_order(plan, i);
-    let w = vertex_pair(table, recorded, found, u, v);
+    let w = vertex_pair(table, plan, u, v);
     let mut g = [0u64; Limits::PAIRS];
     gains(
         &mut g,

@@ -17,7 +17,7 @@ use mir.Val.{SFits, ofZ}
 use Rattle.foundations.specs.Tests.{and-split, or-split, same-test}
 use Rattle.foundations.specs.Int.{up, dn, int, ints}
 use Rattle.model.specs.Limits.{weightLimit, ceiling, forbidden, forbiddenRank}
-use Rattle.model.specs.Bytes.{word, signed32, bits32, int32At, putWord, putInt32}
+use Rattle.model.specs.Bytes.{word, wordAt, signed32, bits32, int32At, putWord, putInt32}
 use Rattle.model.specs.Weights.{isForbidden, inRange, weightOk, stored}
 use Rattle.integers.specs.Results.{StoredValue}
 
@@ -104,24 +104,25 @@ unfolding putWord
 put-length l k z = simp length-set
 
 -- the other places stay
-pub put-other : (l : List ℕ) (k : ℕ) (z : ℤ) (j : ℕ) → (j < k) ⊎ (k + 4 ≤ j) → getD (putInt32 l k z) j 0 ≡ getD l j 0
+pub word-other : (l : List ℕ) (k n j : ℕ) → (j < k) ⊎ (k + 4 ≤ j) → getD (putWord l k n) j 0 ≡ getD l j 0
 unfolding putWord
-put-other l k z j o =
+word-other l k n j o =
     let p : j ≢ k = ⊎-elim (λ x. omega arith) (λ x. omega arith) o in
     let q : j ≢ k + 1 = ⊎-elim (λ x. omega arith) (λ x. omega arith) o in
     let r : j ≢ k + 2 = ⊎-elim (λ x. omega arith) (λ x. omega arith) o in
     let s : j ≢ k + 3 = ⊎-elim (λ x. omega arith) (λ x. omega arith) o in
     simp getD-set-other
 
--- decode ∘ encode: a number that fits 32 bits, put and read back, is itself
-pub read-put : (l : List ℕ) (k : ℕ) (z : ℤ) → k + 4 ≤ length l → SFits w32 z → int32At (putInt32 l k z) k ≡ z
-read-put l k z h f = ap signed32 bytes ∙ signed32-bits32 z f
-  where
-    n : ℕ
-    n = bits32 z
+pub put-other : (l : List ℕ) (k : ℕ) (z : ℤ) (j : ℕ) → (j < k) ⊎ (k + 4 ≤ j) → getD (putInt32 l k z) j 0 ≡ getD l j 0
+put-other l k z j o = word-other l k (bits32 z) j o
 
-    bytes : word (getD (putWord l k n) k 0) (getD (putWord l k n) (k + 1) 0) (getD (putWord l k n) (k + 2) 0) (getD (putWord l k n) (k + 3) 0) ≡ n
-    bytes = omega (arith, put-byte0 l k n h, put-byte1 l k n h, put-byte2 l k n h, put-byte3 l k n h)
+-- a number put and read back is itself
+pub word-put : (l : List ℕ) (k n : ℕ) → k + 4 ≤ length l → wordAt (putWord l k n) k ≡ n
+word-put l k n h = omega (arith, put-byte0 l k n h, put-byte1 l k n h, put-byte2 l k n h, put-byte3 l k n h)
+
+-- decode ∘ encode: an integer that fits 32 bits likewise
+pub read-put : (l : List ℕ) (k : ℕ) (z : ℤ) → k + 4 ≤ length l → SFits w32 z → int32At (putInt32 l k z) k ≡ z
+read-put l k z h f = ap signed32 (word-put l k (bits32 z) h) ∙ signed32-bits32 z f
 
 -- of bytes
 module _ (l : List ℕ) (k : ℕ) (h : (i : ℕ) → getD l i 0 < 256) where

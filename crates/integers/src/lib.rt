@@ -15,7 +15,7 @@ fn wide(x: u8) -> u32
 }
 
 // The number of four bytes, low byte first.
-fn unsigned_of(b0: u8, b1: u8, b2: u8, b3: u8) -> u32
+pub fn unsigned_of(b0: u8, b1: u8, b2: u8, b3: u8) -> u32
     ensures { λ r. ⌜ r ≡ word b0 b1 b2 b3 ⌝ }
 {
     wide(b0) + 256 * wide(b1) + 65536 * wide(b2) + 16777216 * wide(b3)
@@ -67,7 +67,7 @@ fn bits_of(w: i32) -> u32
 }
 
 // Writes a number of 32 bits, low byte first.
-fn put_word(d: &mut [u8], at: usize, n: u32)
+pub fn put_word(d: &mut [u8], at: usize, n: u32)
     requires { do ⌜ at + 4 ≤ (← ⟦d.len()⟧) ⌝ }
     ensures { λ _. ⌜ now (d .exit) ≡ putWord (now (d .entry)) at n ⌝ }
 {

@@ -86,7 +86,7 @@ fn row_ok(
     let mut v: u8 = 0;
     let mut k: usize = 0;
     while k < upto {
-        let w = vertex_pair(table, recorded, found, u, v);
+        let w = vertex_pair(table, plan, u, v);
         let end = lesser(k + degree(plan, v) + 1, upto);
         let fits = pair_ok(work, base + k, end - k, w);
         ok = ok & fits;

@@ -69,7 +69,7 @@ pub fn mapping_ok(
     requires { ⌜ count (now recorded) ≤ length (now mapping) ⌝ }
     ensures { λ r. ⌜ r ≡ mappingOk (now (table .entry)) (now (recorded .entry)) (now (found .entry)) (take (count (now (recorded .entry))) (now (mapping .entry))) ⌝ }
 {
-    let v = vertices_ok(table, recorded, found, mapping);
+    let v = vertices_ok(table, recorded, found, plan, mapping);
     let e = edges_ok(table, recorded, found, plan, mapping);
     let k = tops(recorded, plan, mapping);
     v & (e & (k <= 1))

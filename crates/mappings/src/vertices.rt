@@ -1,16 +1,17 @@
 //! The vertex pairs of a mapping: partners are found vertices, each once, and no pair is forbidden.
 use formats::tree::vertex_count;
+use integers::is_forbidden;
 use model::Limits;
 use model::Mapping;
+use plan::Plan;
 use plan::weights::vertex_pair;
 ghost use Prim.Native.Nat.{_<_};
 ghost use mathlib.Core.Path.{_≡_};
 ghost use Rattle.foundations.specs.Lists.{every};
 ghost use Rattle.model.specs.Limits.{vertexLimit};
 ghost use Rattle.model.specs.Tree.{count};
-ghost use Rattle.model.specs.Pairs.{vertexPair};
-ghost use Rattle.model.specs.Mapping.{partner, mapped, allowed, vertexOk};
-ghost use Rattle.formats.specs.Inputs.{Accepted};
+ghost use Rattle.model.specs.Mapping.{partner, mapped, vertexOk};
+ghost use Rattle.plan.specs.Plan.{Ready};
 ghost use Rattle.mappings.specs.Tested.{isNew};
 
 // The partner of u, 255 for none.
@@ -29,16 +30,6 @@ pub(crate) fn is_mapped(mapping: &Mapping, u: u8) -> bool
     mapping[u as usize] != Limits::NONE
 }
 
-// The pair of u and v is allowed.
-fn pair_allowed(table: &[u8], recorded: &[u8], found: &[u8], u: u8, v: u8) -> bool
-    requires { ⌜ Accepted (now table) (now recorded) (now found) ⌝ }
-    requires { ⌜ (u < count (now recorded)) × (v < count (now found)) ⌝ }
-    ensures { λ r. ⌜ r ≡ allowed (vertexPair (now (table .entry)) (now (recorded .entry)) (now (found .entry)) u v) ⌝ }
-{
-    let w = vertex_pair(table, recorded, found, u, v);
-    !integers::is_forbidden(w)
-}
-
 // No vertex before u has its partner.
 fn is_new(mapping: &Mapping, u: u8) -> bool
     requires { ⌜ u < vertexLimit ⌝ }
@@ -55,8 +46,15 @@ fn is_new(mapping: &Mapping, u: u8) -> bool
 }
 
 // The partner of u is a found vertex, that of no vertex before u, and the pair is allowed.
-fn vertex_ok(table: &[u8], recorded: &[u8], found: &[u8], mapping: &Mapping, u: u8) -> bool
-    requires { ⌜ Accepted (now table) (now recorded) (now found) ⌝ }
+fn vertex_ok(
+    table: &[u8],
+    recorded: &[u8],
+    found: &[u8],
+    plan: &Plan,
+    mapping: &Mapping,
+    u: u8,
+) -> bool
+    requires { ⌜ Ready (now table) (now recorded) (now found) (now plan) ⌝ }
     requires { ⌜ u < count (now recorded) ⌝ }
     ensures { λ r. ⌜ r ≡ vertexOk (now (table .entry)) (now (recorded .entry)) (now (found .entry)) (now (mapping .entry)) u ⌝ }
 {
@@ -69,20 +67,26 @@ fn vertex_ok(table: &[u8], recorded: &[u8], found: &[u8], mapping: &Mapping, u: 
         return false;
     }
     let new = is_new(mapping, u);
-    let allowed = pair_allowed(table, recorded, found, u, v);
-    new & allowed
+    let forbidden = is_forbidden(vertex_pair(table, plan, u, v));
+    new & !forbidden
 }
 
 // So it is for every recorded vertex.
-pub(crate) fn vertices_ok(table: &[u8], recorded: &[u8], found: &[u8], mapping: &Mapping) -> bool
-    requires { ⌜ Accepted (now table) (now recorded) (now found) ⌝ }
+pub(crate) fn vertices_ok(
+    table: &[u8],
+    recorded: &[u8],
+    found: &[u8],
+    plan: &Plan,
+    mapping: &Mapping,
+) -> bool
+    requires { ⌜ Ready (now table) (now recorded) (now found) (now plan) ⌝ }
     ensures { λ r. ⌜ r ≡ every (vertexOk (now (table .entry)) (now (recorded .entry)) (now (found .entry)) (now (mapping .entry))) (count (now (recorded .entry))) ⌝ }
 {
     let n = vertex_count(recorded);
     let mut ok = true;
     let mut u: u8 = 0;
     while (u as usize) < n {
-        let fine = vertex_ok(table, recorded, found, mapping, u);
+        let fine = vertex_ok(table, recorded, found, plan, mapping, u);
         ok = ok & fine;
         u += 1;
     }

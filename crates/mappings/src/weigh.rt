@@ -35,8 +35,16 @@ fn partner_of(mapping: &[u8], x: u8) -> u8
 }
 
 // The weight of u's pair, 0 where u has no partner.
-fn vertex_term(table: &[u8], recorded: &[u8], found: &[u8], mapping: &[u8], u: u8) -> i32
+fn vertex_term(
+    table: &[u8],
+    recorded: &[u8],
+    found: &[u8],
+    plan: &Plan,
+    mapping: &[u8],
+    u: u8,
+) -> i32
     requires { ⌜ Ground (now table) (now recorded) (now found) (now mapping) ⌝ }
+    requires { ⌜ Ready (now table) (now recorded) (now found) (now plan) ⌝ }
     requires { ⌜ u < count (now recorded) ⌝ }
     ensures { λ r. ⌜ SumTo 1 (vertexTerm (now (table .entry)) (now (recorded .entry)) (now (found .entry)) (take (count (now (recorded .entry))) (now (mapping .entry))) u) r ⌝ }
 {
@@ -44,19 +52,20 @@ fn vertex_term(table: &[u8], recorded: &[u8], found: &[u8], mapping: &[u8], u: u
     if v == Limits::NONE {
         return 0;
     }
-    vertex_pair(table, recorded, found, u, v)
+    vertex_pair(table, plan, u, v)
 }
 
 // The weight of all vertex pairs.
-fn sum_vertices(table: &[u8], recorded: &[u8], found: &[u8], mapping: &[u8]) -> i32
+fn sum_vertices(table: &[u8], recorded: &[u8], found: &[u8], plan: &Plan, mapping: &[u8]) -> i32
     requires { ⌜ Ground (now table) (now recorded) (now found) (now mapping) ⌝ }
+    requires { ⌜ Ready (now table) (now recorded) (now found) (now plan) ⌝ }
     ensures { λ r. ⌜ SumTo (count (now (recorded .entry))) (vertexPairs (now (table .entry)) (now (recorded .entry)) (now (found .entry)) (take (count (now (recorded .entry))) (now (mapping .entry)))) r ⌝ }
 {
     let n = vertex_count(recorded);
     let mut s: i32 = 0;
     let mut u: u8 = 0;
     while (u as usize) < n {
-        let t = vertex_term(table, recorded, found, mapping, u);
+        let t = vertex_term(table, recorded, found, plan, mapping, u);
         s = add(s, t);
         u += 1;
     }
@@ -116,7 +125,7 @@ pub fn weigh(table: &[u8], recorded: &[u8], found: &[u8], plan: &Plan, mapping: 
     requires { ⌜ IsMapping (now table) (now recorded) (now found) (take (count (now recorded)) (now mapping)) ⌝ }
     ensures { λ r. ⌜ r ≡ weight (now (table .entry)) (now (recorded .entry)) (now (found .entry)) (take (count (now (recorded .entry))) (now (mapping .entry))) ⌝ }
 {
-    let s = sum_vertices(table, recorded, found, mapping);
+    let s = sum_vertices(table, recorded, found, plan, mapping);
     let t = sum_edges(table, recorded, found, plan, mapping);
     add(s, t)
 }

@@ -29,7 +29,7 @@ use Rattle.trees.specs.Positions.{index-low, position-low}
 use Rattle.formats.specs.Table.{TablePassed}
 use Rattle.formats.specs.Inputs.{Accepted}
 use Rattle.integers.specs.Results.{gainMost, Gain}
-use Rattle.plan.specs.Plan.{childCountIn, childEdgeIn, childPlaceIn, degreeIn, neighbourEdgeIn, behindIn, Ready, Pair}
+use Rattle.plan.specs.Plan.{recordedVertices, foundVertices, labelIn, serialIn, VertexIn, childCountIn, childEdgeIn, childPlaceIn, degreeIn, neighbourEdgeIn, behindIn, Ready, Pair}
 use Rattle.plan.specs.Numbers.{ready-accepted}
 
 -- ---- the pair of vertices
@@ -38,15 +38,66 @@ pub record VertexPair (table r f : List ℕ) (u v : ℕ) (w : ℤ) : Type 0 wher
   pub is : vertexPair table r f u v ≡ weighed w
   pub ok : weightOk w ≡ true
 
-pub pair-apart : (table r f : List ℕ) (u v : ℕ) → apart (serial r u) (serial f v) ≡ true → VertexPair table r f u v forbidden
-unfolding vertexPair weighed isForbidden weightOk
-pair-apart table r f u v e = record { is = rw e; ok = refl }
+-- w is the weight of the pair in all inputs of which this is the plan
+pub record PairWeighs (table : List ℕ) (plan : List (List ℕ)) (u v : ℕ) (w : ℤ) : Type 0 where
+  pub is : (r f : List ℕ) → Ready table r f plan → Pair r f u v → VertexPair table r f u v w
 
-pub vertex-pair : (table r f : List ℕ) → Accepted table r f → (u v i j : ℕ) (w : ℤ) → u < count r → v < count f → apart (serial r u) (serial f v) ≡ false → i ≡ vertexLabel r u → j ≡ vertexLabel f v → w ≡ int32At table (column (vertexRow table i) j) → VertexPair table r f u v w
+-- there are such inputs, with such a pair
+pub record Weighable (table : List ℕ) (plan : List (List ℕ)) (u v : ℕ) : Type 0 where
+  pub r : List ℕ
+  pub f : List ℕ
+  pub ready : Ready table r f plan
+  pub pair : Pair r f u v
+
+pub weighable : {table r f : List ℕ} {plan : List (List ℕ)} {u v : ℕ} → Ready table r f plan → u < count r → v < count f → Weighable table plan u v
+weighable N a b = record { r = _; f = _; ready = N; pair = record { u-low = a; v-low = b } }
+
+pub pair-weighs : {table r f : List ℕ} {plan : List (List ℕ)} {u v : ℕ} {w : ℤ} → Ready table r f plan → u < count r → v < count f → PairWeighs table plan u v w → VertexPair table r f u v w
+pair-weighs N a b P = P .is _ _ N (record { u-low = a; v-low = b })
+
+-- what the plan says of the two vertices is what their trees say
+module _ {table r f : List ℕ} {plan : List (List ℕ)} (N : Ready table r f plan) {u v : ℕ} (Q : Pair r f u v) where
+  ru : VertexIn r plan recordedVertices u
+  ru = N .planned .recorded-vertex u (Q .u-low)
+
+  fv : VertexIn f plan foundVertices v
+  fv = N .planned .found-vertex v (Q .v-low)
+
+  apart-is : apart (serialIn plan recordedVertices u) (serialIn plan foundVertices v) ≡ apart (serial r u) (serial f v)
+  apart-is = rw (ru .own, fv .own)
+
+  labels-low : (labelIn plan recordedVertices u < vertexLabels table) × (labelIn plan foundVertices v < vertexLabels table)
+  labels-low =
+      let A = ready-accepted N in
+      (rw (ru .label) (vertex-known r _ _ u (A .recorded) (Q .u-low)), rw (fv .label) (vertex-known f _ _ v (A .found) (Q .v-low)))
+
+pub labels-weighable : {table : List ℕ} {plan : List (List ℕ)} {u v : ℕ} → Weighable table plan u v → (labelIn plan recordedVertices u < vertexLabels table) × (labelIn plan foundVertices v < vertexLabels table)
+labels-weighable W = labels-low (W .ready) (W .pair)
+
+pub low-weighable : {table : List ℕ} {plan : List (List ℕ)} {u v : ℕ} → Weighable table plan u v → (u < vertexLimit) × (v < vertexLimit)
+low-weighable W =
+    let A = ready-accepted (W .ready) in
+    let a : count (W .r) ≤ vertexLimit = A .recorded .ends .few in
+    let b : count (W .f) ≤ vertexLimit = A .found .ends .few in
+    let x = W .pair .u-low in
+    let y = W .pair .v-low in
+    (omega arith, omega arith)
+
+-- serials that are apart; labels, where they are not
+pub pair-apart : (table : List ℕ) (plan : List (List ℕ)) (u v : ℕ) → apart (serialIn plan recordedVertices u) (serialIn plan foundVertices v) ≡ true → PairWeighs table plan u v forbidden
+unfolding vertexPair weighed isForbidden weightOk
+pair-apart table plan u v e = record { is = λ r f N Q. record { is = rw (sym (apart-is N Q) ∙ e); ok = refl } }
+
+pub pair-labels : (table : List ℕ) (plan : List (List ℕ)) (u v : ℕ) (w : ℤ) → apart (serialIn plan recordedVertices u) (serialIn plan foundVertices v) ≡ false
+    → w ≡ int32At table (column (vertexRow table (labelIn plan recordedVertices u)) (labelIn plan foundVertices v)) → PairWeighs table plan u v w
 unfolding vertexPair vertexWeight
-vertex-pair table r f A u v i j w lu lv h ei ej e = record {
-  is = rw (h, e, ei, ej);
-  ok = rw (e, ei, ej) (A .weights .vertex-ok (vertexLabel r u) (vertexLabel f v) (vertex-known r _ _ u (A .recorded) lu) (vertex-known f _ _ v (A .found) lv));
+pair-labels table plan u v w e h = record {
+  is = λ r f N Q.
+      let l = labels-low N Q in
+      record {
+        is = rw (sym (apart-is N Q) ∙ e, h, ru N Q .label, fv N Q .label);
+        ok = rw h (ready-accepted N .weights .vertex-ok _ _ (l .0) (l .1));
+      };
 }
 
 pub weighed-number : (w : ℤ) → isForbidden w ≡ false → weighed w ≡ some w

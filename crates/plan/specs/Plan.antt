@@ -1,4 +1,4 @@
--- The plan of two trees: what a call looks up in them, as rows of a number for each place: eight blocks of a row for each vertex, the first four
+-- The plan of two trees: what a call looks up in them, as rows of a number for each place: ten blocks of a row for each vertex, the first five
 -- of the recorded tree and the others of the found tree. Only this file, `src/` and `planning` know where a number stands; all else goes by the laws
 -- of `Planned`. Assumes nothing.
 use mathlib.Core.Path.{_≡_}
@@ -8,19 +8,34 @@ use Prim.Native.Nat.{ℕ, _+_, _*_, _≤_, _<_}
 use lib.ListN.{getD, length}
 use lib.IntN.{ℤ}
 use Rattle.model.specs.Limits.{vertexLimit, degreeLimit}
-use Rattle.model.specs.Tree.{count}
+use Rattle.model.specs.Bytes.{wordAt}
+use Rattle.model.specs.Tree.{count, vertexLabel, serial}
 use Rattle.model.specs.Graph.{neighbours, edgeLabel}
 use Rattle.model.specs.Order.{children, parent, postorder, position, offset, slot, subproblems}
 use Rattle.model.specs.Calls.{inputItem}
 
 -- ---- where a number stands
 
--- the rows of all blocks; those of the found tree begin at the first of its four
+-- the rows of all blocks; those of the found tree begin at the first of its five
 abbrev pub planRows : ℕ
-planRows = 8 * vertexLimit
+planRows = 10 * vertexLimit
 
 abbrev pub foundRow : ℕ
-foundRow = 4 * vertexLimit
+foundRow = 5 * vertexLimit
+
+-- where the rows begin in which the vertices' own labels and serials stand, of the recorded and of the found tree
+abbrev pub recordedVertices : ℕ
+recordedVertices = 4 * vertexLimit
+
+abbrev pub foundVertices : ℕ
+foundVertices = 9 * vertexLimit
+
+-- of vertex x of the tree whose such rows begin at `first`: its label, and its serial in four bytes
+abbrev pub labelIn : List (List ℕ) → ℕ → ℕ → ℕ
+labelIn plan first x = getD (getD plan (first + x) []) 0 0
+
+abbrev pub serialIn : List (List ℕ) → ℕ → ℕ → ℕ
+serialIn plan first x = wordAt (getD plan (first + x) []) 1
 
 -- recorded vertex u: how many children it has, its place in the postorder, the vertex that stands u-th in the postorder, its parent, and the label
 -- of the edge to the parent
@@ -58,13 +73,13 @@ offsetIn plan v = getD (getD plan (foundRow + v) []) 1 0
 
 -- its j-th neighbour: the vertex, the label of the edge to it, and where the subproblem behind it stands
 abbrev pub neighbourIn : List (List ℕ) → ℕ → ℕ → ℕ
-neighbourIn plan v j = getD (getD plan (5 * vertexLimit + v) []) j 0
+neighbourIn plan v j = getD (getD plan (6 * vertexLimit + v) []) j 0
 
 abbrev pub neighbourEdgeIn : List (List ℕ) → ℕ → ℕ → ℕ
-neighbourEdgeIn plan v j = getD (getD plan (6 * vertexLimit + v) []) j 0
+neighbourEdgeIn plan v j = getD (getD plan (7 * vertexLimit + v) []) j 0
 
 abbrev pub behindIn : List (List ℕ) → ℕ → ℕ → ℕ
-behindIn plan v j = getD (getD plan (7 * vertexLimit + v) []) j 0
+behindIn plan v j = getD (getD plan (8 * vertexLimit + v) []) j 0
 
 -- ---- what it says of the trees
 
@@ -86,9 +101,16 @@ pub record FoundIn (f : List ℕ) (plan : List (List ℕ)) (v : ℕ) : Type 0 wh
   pub edge : (j : ℕ) → j < length (neighbours f v) → neighbourEdgeIn plan v j ≡ edgeLabel f v (getD (neighbours f v) j 0)
   pub behind : (j : ℕ) → j < length (neighbours f v) → behindIn plan v j ≡ offset f (getD (neighbours f v) j 0) + slot f (getD (neighbours f v) j 0) v
 
+-- the label and the serial of vertex x of the tree s, whose such rows begin at `first`
+pub record VertexIn (s : List ℕ) (plan : List (List ℕ)) (first x : ℕ) : Type 0 where
+  pub label : labelIn plan first x ≡ vertexLabel s x
+  pub own : serialIn plan first x ≡ serial s x
+
 pub record Planned (r f : List ℕ) (plan : List (List ℕ)) : Type 0 where
   pub recorded : (u : ℕ) → u < count r → RecordedIn r plan u
+  pub recorded-vertex : (u : ℕ) → u < count r → VertexIn r plan recordedVertices u
   pub found : (v : ℕ) → v < count f → FoundIn f plan v
+  pub found-vertex : (v : ℕ) → v < count f → VertexIn f plan foundVertices v
 
 -- ---- what functions over a plan ask
 

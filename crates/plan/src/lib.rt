@@ -5,10 +5,10 @@ pub mod counts;
 pub mod weights;
 
 use model::Limits;
-ghost use Prim.Native.Nat.{_<_, _≤_};
+ghost use Prim.Native.Nat.{_+_, _<_, _≤_};
 ghost use mathlib.Core.Path.{_≡_};
 ghost use Rattle.model.specs.Limits.{vertexLimit, degreeLimit};
-ghost use Rattle.plan.specs.Plan.{childCountIn, placeIn, orderIn, parentIn, parentEdgeIn, childIn, childEdgeIn, childPlaceIn, degreeIn, offsetIn, neighbourIn, neighbourEdgeIn, behindIn};
+ghost use Rattle.plan.specs.Plan.{planRows, labelIn, serialIn, childCountIn, placeIn, orderIn, parentIn, parentEdgeIn, childIn, childEdgeIn, childPlaceIn, degreeIn, offsetIn, neighbourIn, neighbourEdgeIn, behindIn};
 ghost use Rattle.plan.specs.Numbers.{Located, SlotAt};
 
 // Where the blocks of rows begin, a row for each vertex in each: the recorded tree's first rows begin at 0. For the accessors here, and for `planning`,
@@ -22,15 +22,19 @@ impl Blocks {
 
     pub const CHILD_PLACE: usize = 3 * Limits::ROWS;
 
-    pub const FOUND: usize = 4 * Limits::ROWS;
+    pub const RECORDED_VERTEX: usize = 4 * Limits::ROWS;
 
-    pub const NEIGHBOUR: usize = 5 * Limits::ROWS;
+    pub const FOUND: usize = 5 * Limits::ROWS;
 
-    pub const NEIGHBOUR_EDGE: usize = 6 * Limits::ROWS;
+    pub const NEIGHBOUR: usize = 6 * Limits::ROWS;
 
-    pub const BEHIND: usize = 7 * Limits::ROWS;
+    pub const NEIGHBOUR_EDGE: usize = 7 * Limits::ROWS;
+
+    pub const BEHIND: usize = 8 * Limits::ROWS;
+
+    pub const FOUND_VERTEX: usize = 9 * Limits::ROWS;
     // The rows of all blocks.
-    pub const ALL: usize = 8 * Limits::ROWS;
+    pub const ALL: usize = 10 * Limits::ROWS;
 }
 
 // The plan: rows of a place for each of a vertex's children or neighbours.
@@ -41,6 +45,23 @@ pub fn wide(x: u8) -> usize
     ensures { λ r. ⌜ r ≡ x ⌝ }
 {
     x as usize
+}
+
+// The label of vertex x of the tree whose vertices' own rows begin at `first`.
+fn label(plan: &Plan, first: usize, x: u8) -> u8
+    requires { ⌜ first + x < planRows ⌝ }
+    ensures { λ r. ⌜ r ≡ labelIn (now (plan .entry)) first x ⌝ }
+{
+    plan[first + (x as usize)][0]
+}
+
+// Its serial, 0 for an unknown one.
+fn serial(plan: &Plan, first: usize, x: u8) -> u32
+    requires { ⌜ first + x < planRows ⌝ }
+    ensures { λ r. ⌜ r ≡ serialIn (now (plan .entry)) first x ⌝ }
+{
+    let row = plan[first + (x as usize)];
+    integers::unsigned_of(row[1], row[2], row[3], row[4])
 }
 
 // How many children recorded vertex u has.

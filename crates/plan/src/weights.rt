@@ -1,44 +1,41 @@
 //! The weights of a pair of vertices and of a pair of edges: everything that asks for a pair's weight asks here. What a branch gains.
-use crate::wide;
-use formats::serials::serial_of;
+use crate::Blocks;
+use crate::Plan;
+use crate::label;
+use crate::serial;
 use formats::table::edge_weight_at;
 use formats::table::vertex_weight_at;
-use formats::tree::vertex_count;
-use formats::tree::vertex_label;
 use model::Limits;
 ghost use Prim.Native.Nat.{_<_};
 ghost use mathlib.Core.Path.{_≡_};
-ghost use Rattle.model.specs.Table.{edgeLabels};
-ghost use Rattle.model.specs.Tree.{count, serial};
+ghost use Rattle.model.specs.Limits.{vertexLimit};
 ghost use Rattle.model.specs.Pairs.{apart};
-ghost use Rattle.trees.specs.Accepted.{Ends};
+ghost use Rattle.model.specs.Table.{edgeLabels};
 ghost use Rattle.formats.specs.Table.{TablePassed};
-ghost use Rattle.formats.specs.Inputs.{Accepted};
-ghost use Rattle.plan.specs.Pairs.{VertexPair, EdgePair, GainIs};
+ghost use Rattle.plan.specs.Plan.{recordedVertices, foundVertices, serialIn};
+ghost use Rattle.plan.specs.Pairs.{Weighable, PairWeighs, EdgePair, GainIs};
 
 // The serials of recorded vertex u and found vertex v are known and different.
-fn serials_apart(recorded: &[u8], found: &[u8], u: u8, v: u8) -> bool
-    requires { ⌜ Ends (now recorded) (count (now recorded)) ⌝ }
-    requires { ⌜ Ends (now found) (count (now found)) ⌝ }
-    requires { ⌜ (u < count (now recorded)) × (v < count (now found)) ⌝ }
-    ensures { λ r. ⌜ r ≡ apart (serial (now (recorded .entry)) u) (serial (now (found .entry)) v) ⌝ }
+fn serials_apart(plan: &Plan, u: u8, v: u8) -> bool
+    requires { ⌜ (u < vertexLimit) × (v < vertexLimit) ⌝ }
+    ensures { λ r. ⌜ r ≡ apart (serialIn (now (plan .entry)) recordedVertices u) (serialIn (now (plan .entry)) foundVertices v) ⌝ }
 {
-    let a = serial_of(recorded, vertex_count(recorded), wide(u));
-    let b = serial_of(found, vertex_count(found), wide(v));
+    let a = serial(plan, Blocks::RECORDED_VERTEX, u);
+    let b = serial(plan, Blocks::FOUND_VERTEX, v);
     (a != 0) & ((b != 0) & (a != b))
 }
 
-// The weight of the pair of recorded vertex u and found vertex v: forbidden if their serials are apart, else that of their labels.
-pub fn vertex_pair(table: &[u8], recorded: &[u8], found: &[u8], u: u8, v: u8) -> i32
-    requires { ⌜ Accepted (now table) (now recorded) (now found) ⌝ }
-    requires { ⌜ (u < count (now recorded)) × (v < count (now found)) ⌝ }
-    ensures { λ r. ⌜ VertexPair (now (table .entry)) (now (recorded .entry)) (now (found .entry)) u v r ⌝ }
+// The weight of the pair of recorded vertex u and found vertex v, by what the plan says of each: forbidden if their serials are apart, else that of
+// their labels.
+pub fn vertex_pair(table: &[u8], plan: &Plan, u: u8, v: u8) -> i32
+    requires { ⌜ Weighable (now table) (now plan) u v ⌝ }
+    ensures { λ r. ⌜ PairWeighs (now (table .entry)) (now (plan .entry)) u v r ⌝ }
 {
-    if serials_apart(recorded, found, u, v) {
+    if serials_apart(plan, u, v) {
         return Limits::FORBIDDEN;
     }
-    let i = vertex_label(recorded, vertex_count(recorded), wide(u));
-    let j = vertex_label(found, vertex_count(found), wide(v));
+    let i = label(plan, Blocks::RECORDED_VERTEX, u);
+    let j = label(plan, Blocks::FOUND_VERTEX, v);
     vertex_weight_at(table, i, j)
 }
 

@@ -1,6 +1,6 @@
 -- How the plan's rows come about: what was read of either tree, and a vertex's four rows stored. Assumes nothing.
 use mathlib.Core.Path.{_≡_, refl, _∙_}
-use mathlib.Core.Logic.{⊎-elim, _≢_}
+use mathlib.Core.Logic.{inl, ⊎-elim, _≢_}
 use mathlib.Core.List.{List, []}
 use Prim.Native.Nat.{ℕ, _+_, _*_, _≤_, _<_}
 use native.Mathlib.Omega.{arith}
@@ -10,13 +10,15 @@ use lib.Seq.{getD-set-same, getD-set-other}
 use Rattle.foundations.specs.Tests.{same?}
 use Rattle.foundations.specs.Members.{getD-mem}
 use Rattle.model.specs.Limits.{widthLimit, degreeLimit, vertexLimit}
-use Rattle.model.specs.Tree.{count}
+use Rattle.model.specs.Bytes.{wordAt, putWord}
+use Rattle.model.specs.Tree.{count, vertexLabel, serial}
 use Rattle.model.specs.Graph.{neighbours, neighbourTable, edgeLabelTable}
 use Rattle.model.specs.Order.{children, postorder, position, offset}
+use Rattle.integers.specs.Laws.{word-other, word-put}
 use Rattle.trees.specs.Accepted.{Sound}
 use Rattle.trees.specs.Neighbours.{few-neighbours, neighbour-at, label-at}
 use Rattle.trees.specs.Visits.{OrderOf, Ordered, ordered, ordered-different, Different, Placed, placed-position}
-use Rattle.plan.specs.Plan.{planRows, foundRow, RecordedIn, FoundIn, Planned}
+use Rattle.plan.specs.Plan.{planRows, foundRow, recordedVertices, foundVertices, RecordedIn, FoundIn, VertexIn, Planned}
 use Rattle.planning.specs.Parents.{LaterAt, atOr, parent-at, parent-edge-at}
 use Rattle.planning.specs.Making.{TakenPlaces, taken-neighbours, Starts, ChildrenTo, ChildrenAre, children-are, BehindTo, behind-is}
 
@@ -158,7 +160,7 @@ recorded-more {r} {rows} {labels} {order} {place} N old plan u lu P c label at v
 
 -- ---- the found tree's
 
-found-same : (f : List ℕ) (plan plan′ : List (List ℕ)) (v : ℕ) → getD plan′ (foundRow + v) [] ≡ getD plan (foundRow + v) [] → getD plan′ (5 * vertexLimit + v) [] ≡ getD plan (5 * vertexLimit + v) [] → getD plan′ (6 * vertexLimit + v) [] ≡ getD plan (6 * vertexLimit + v) [] → getD plan′ (7 * vertexLimit + v) [] ≡ getD plan (7 * vertexLimit + v) [] → FoundIn f plan v → FoundIn f plan′ v
+found-same : (f : List ℕ) (plan plan′ : List (List ℕ)) (v : ℕ) → getD plan′ (foundRow + v) [] ≡ getD plan (foundRow + v) [] → getD plan′ (6 * vertexLimit + v) [] ≡ getD plan (6 * vertexLimit + v) [] → getD plan′ (7 * vertexLimit + v) [] ≡ getD plan (7 * vertexLimit + v) [] → getD plan′ (8 * vertexLimit + v) [] ≡ getD plan (8 * vertexLimit + v) [] → FoundIn f plan v → FoundIn f plan′ v
 found-same f plan plan′ v a b c d F = record {
   degree = rw a (F .degree);
   begins = rw a (F .begins);
@@ -178,7 +180,7 @@ found-none f plan e = record { long = e; get = λ x h. absurd (not-suc-le-zero h
 
 pub found-more : {f : List ℕ} {rows labels : List (List ℕ)} {starts : List ℕ} → FoundRead f rows labels starts → (old plan : List (List ℕ)) (v : ℕ) → v < count f → FoundHalf f old plan v
     → (k : ℕ) (back head : List ℕ) → TakenPlaces (getD rows v []) k → BehindTo rows starts v degreeLimit back → getD head 0 0 ≡ k → getD head 1 0 ≡ getD starts v 0
-    → FoundHalf f old (set (set (set (set plan (foundRow + v) head) (5 * vertexLimit + v) (getD rows v [])) (6 * vertexLimit + v) (getD labels v [])) (7 * vertexLimit + v) back) (v + 1)
+    → FoundHalf f old (set (set (set (set plan (foundRow + v) head) (6 * vertexLimit + v) (getD rows v [])) (7 * vertexLimit + v) (getD labels v [])) (8 * vertexLimit + v) back) (v + 1)
 found-more {f} {rows} {labels} {starts} N old plan v lv P k back head t B e0 e1 =
     let p = N .sound .passed in
     let few : count f ≤ vertexLimit = p .ends .few in
@@ -202,9 +204,9 @@ found-more {f} {rows} {labels} {starts} N old plan v lv P k back head t B e0 e1 
           }))
           (λ e. found-same f plan _ x
           (o (foundRow + x) (λ q. omega arith) (λ q. omega arith) (λ q. omega arith) (λ q. omega arith))
-          (o (5 * vertexLimit + x) (λ q. omega arith) (λ q. omega arith) (λ q. omega arith) (λ q. omega arith))
           (o (6 * vertexLimit + x) (λ q. omega arith) (λ q. omega arith) (λ q. omega arith) (λ q. omega arith))
           (o (7 * vertexLimit + x) (λ q. omega arith) (λ q. omega arith) (λ q. omega arith) (λ q. omega arith))
+          (o (8 * vertexLimit + x) (λ q. omega arith) (λ q. omega arith) (λ q. omega arith) (λ q. omega arith))
           (P .get x (omega arith)))
           (same? x v);
       kept = λ x h. o x (λ q. omega arith) (λ q. omega arith) (λ q. omega arith) (λ q. omega arith) ∙ P .kept x h;
@@ -213,13 +215,97 @@ found-more {f} {rows} {labels} {starts} N old plan v lv P k back head t B e0 e1 
     named : (j : ℕ) → j < length (neighbours f v) → getD (getD rows v []) j 0 ≡ getD (neighbours f v) j 0
     named j l = rw (N .neighbours) (neighbour-at f _ _ (N .sound .passed) v j lv l)
 
+-- ---- the vertices' own rows, of either tree
+
+-- the row of a label and a serial
+pub record VertexRow (label own : ℕ) (row : List ℕ) : Type 0 where
+  pub label-is : getD row 0 0 ≡ label
+  pub serial-is : wordAt row 1 ≡ own
+
+pub vertex-row : (row : List ℕ) (label own : ℕ) → length row ≡ degreeLimit → VertexRow label own (putWord (set row 0 label) 1 own)
+vertex-row row label own e =
+    let n : length (set row 0 label) ≡ degreeLimit = length-set row 0 label ∙ e in
+    record {
+      label-is = word-other (set row 0 label) 1 own 0 (inl (omega arith)) ∙ getD-set-same row 0 label 0 (omega arith);
+      serial-is = word-put (set row 0 label) 1 own (omega arith);
+    }
+
+vertex-same : (s : List ℕ) (plan plan′ : List (List ℕ)) (first x : ℕ) → getD plan′ (first + x) [] ≡ getD plan (first + x) [] → VertexIn s plan first x → VertexIn s plan′ first x
+vertex-same s plan plan′ first x e I = record { label = rw e (I .label); own = rw e (I .own) }
+
+-- the rows of the first v vertices from row `first` on, and what stands before and behind a block as it was
+pub record VerticesHere (s : List ℕ) (first : ℕ) (old plan : List (List ℕ)) (v : ℕ) : Type 0 where
+  pub long : length plan ≡ planRows
+  pub get : (x : ℕ) → x < v → VertexIn s plan first x
+  pub before : (i : ℕ) → i < first → getD plan i [] ≡ getD old i []
+  pub behind : (i : ℕ) → first + vertexLimit ≤ i → getD plan i [] ≡ getD old i []
+  pub few : v ≤ vertexLimit
+
+pub vertices-none : (s : List ℕ) (first : ℕ) (plan : List (List ℕ)) → length plan ≡ planRows → VerticesHere s first plan plan 0
+vertices-none s first plan e = record { long = e; get = λ x h. absurd (not-suc-le-zero h); before = λ i h. refl; behind = λ i h. refl; few = omega arith }
+
+pub vertices-more : {s : List ℕ} {first : ℕ} {old plan : List (List ℕ)} {v : ℕ} {row : List ℕ} → first + vertexLimit ≤ planRows → v < vertexLimit → VerticesHere s first old plan v → VertexRow (vertexLabel s v) (serial s v) row → VerticesHere s first old (set plan (first + v) row) (v + 1)
+vertices-more {s} {first} {old} {plan} {v} {row} room low H R =
+    let n : length plan ≡ planRows = H .long in
+    let a : getD (set plan (first + v) row) (first + v) [] ≡ row = getD-set-same plan (first + v) row [] (omega arith) in
+    record {
+      long = length-set plan (first + v) row ∙ n;
+      get = λ x h. ⊎-elim
+          (λ e. rw e (record { label = rw a (R .label-is); own = rw a (R .serial-is) }))
+          (λ e. vertex-same s plan _ first x (getD-set-other plan (first + v) (first + x) row [] (λ q. e (omega arith))) (H .get x (omega arith)))
+          (same? x v);
+      before = λ i h. getD-set-other plan (first + v) i row [] (λ q. omega arith) ∙ H .before i h;
+      behind = λ i h. getD-set-other plan (first + v) i row [] (λ q. omega arith) ∙ H .behind i h;
+      few = omega arith;
+    }
+
+-- ---- each half with them
+
+pub record RecordedMade (r : List ℕ) (old plan : List (List ℕ)) : Type 0 where
+  pub rows : RecordedHalf r old plan (count r)
+  pub own : (u : ℕ) → u < count r → VertexIn r plan recordedVertices u
+
+pub recorded-made : {r : List ℕ} {old mid plan : List (List ℕ)} → RecordedHalf r old mid (count r) → VerticesHere r recordedVertices mid plan (count r) → RecordedMade r old plan
+recorded-made {r} {old} {mid} {plan} R H =
+    let b = H .before in
+    let few : count r ≤ vertexLimit = H .few in
+    record {
+      rows = record {
+        long = H .long;
+        get = λ x h. recorded-same r mid plan x (b x (omega arith)) (b (vertexLimit + x) (omega arith)) (b (2 * vertexLimit + x) (omega arith)) (b (3 * vertexLimit + x) (omega arith)) (R .get x h);
+        kept = λ x h. H .behind x (omega arith) ∙ R .kept x h;
+      };
+      own = H .get;
+    }
+
+pub record FoundMade (f : List ℕ) (old plan : List (List ℕ)) : Type 0 where
+  pub rows : FoundHalf f old plan (count f)
+  pub own : (v : ℕ) → v < count f → VertexIn f plan foundVertices v
+
+pub found-made : {f : List ℕ} {old mid plan : List (List ℕ)} → FoundHalf f old mid (count f) → VerticesHere f foundVertices mid plan (count f) → FoundMade f old plan
+found-made {f} {old} {mid} {plan} F H =
+    let b = H .before in
+    let few : count f ≤ vertexLimit = H .few in
+    record {
+      rows = record {
+        long = H .long;
+        get = λ x h. found-same f mid plan x (b (foundRow + x) (omega arith)) (b (6 * vertexLimit + x) (omega arith)) (b (7 * vertexLimit + x) (omega arith)) (b (8 * vertexLimit + x) (omega arith)) (F .get x h);
+        kept = λ x h. b x (omega arith) ∙ F .kept x h;
+      };
+      own = H .get;
+    }
+
 -- ---- both
 
-pub planned : {r f : List ℕ} {old plan plan′ : List (List ℕ)} → count r ≤ vertexLimit → RecordedHalf r old plan (count r) → FoundHalf f plan plan′ (count f) → Planned r f plan′
-planned {r} {f} {old} {plan} {plan′} few R F = record {
-  recorded = λ u l. recorded-same r plan plan′ u (F .kept u (omega arith)) (F .kept (vertexLimit + u) (omega arith)) (F .kept (2 * vertexLimit + u) (omega arith)) (F .kept (3 * vertexLimit + u) (omega arith)) (R .get u l);
-  found = F .get;
-}
+pub planned : {r f : List ℕ} {old plan plan′ : List (List ℕ)} → count r ≤ vertexLimit → RecordedMade r old plan → FoundMade f plan plan′ → Planned r f plan′
+planned {r} {f} {old} {plan} {plan′} few R F =
+    let k = F .rows .kept in
+    record {
+      recorded = λ u l. recorded-same r plan plan′ u (k u (omega arith)) (k (vertexLimit + u) (omega arith)) (k (2 * vertexLimit + u) (omega arith)) (k (3 * vertexLimit + u) (omega arith)) (R .rows .get u l);
+      recorded-vertex = λ u l. vertex-same r plan plan′ recordedVertices u (k (recordedVertices + u) (omega arith)) (R .own u l);
+      found = F .rows .get;
+      found-vertex = F .own;
+    }
 
 -- ---- the postorder that was found
 

@@ -1,7 +1,10 @@
 //! Making the plan: each half reads its own tree once and leaves the other half as it was.
 use adjacency::edge_label_table;
 use adjacency::neighbour_table;
+use formats::serials::serial_of;
 use formats::tree::vertex_count;
+use formats::tree::vertex_label;
+use integers::put_word;
 use model::Limits;
 use model::PlaceTable;
 use model::Row;
@@ -20,7 +23,7 @@ ghost use Rattle.trees.specs.Accepted.{Sound};
 ghost use Rattle.plan.specs.Plan.{planRows, Planned};
 ghost use Rattle.planning.specs.Making.{TakenPlaces, Starts, placeOr, nextOf, ChildrenTo, At, Behind, BehindTo};
 ghost use Rattle.planning.specs.Parents.{isLater, LaterAt, atOr};
-ghost use Rattle.planning.specs.Rows.{RecordedRead, FoundRead, Head, RecordedHalf, FoundHalf};
+ghost use Rattle.planning.specs.Rows.{RecordedRead, FoundRead, Head, RecordedHalf, FoundHalf, VertexRow, VerticesHere, RecordedMade, FoundMade};
 
 // How many places of a row are taken.
 fn taken(row: Row) -> u8
@@ -258,11 +261,39 @@ fn store_found(
     }
 }
 
+// A vertex's own row: its label, and its serial in four bytes.
+fn vertex_row(label: u8, serial: u32) -> Row
+    ensures { λ r. ⌜ VertexRow label serial r ⌝ }
+{
+    let mut row = [0u8; Limits::PLACES];
+    row[0] = label;
+    put_word(&mut row, 1, serial);
+    row
+}
+
+// The own rows of a tree's vertices, from row `first` on. All other rows stay.
+fn store_vertices(plan: &mut Plan, s: &[u8], first: usize)
+    requires { ⌜ length (now plan) ≡ planRows ⌝ }
+    requires { ⌜ Sound (now s) ⌝ }
+    requires { ⌜ first + vertexLimit ≤ planRows ⌝ }
+    ensures { λ _. ⌜ VerticesHere (now (s .entry)) first (now (plan .entry)) (now (plan .exit)) (count (now (s .entry))) ⌝ }
+{
+    let n = vertex_count(s);
+    let mut v: usize = 0;
+    while v < n {
+        let label = vertex_label(s, n, v);
+        let serial = serial_of(s, n, v);
+        let row = vertex_row(label, serial);
+        plan[first + v] = row;
+        v += 1;
+    }
+}
+
 // The recorded half. The found half stays.
 fn plan_recorded(plan: &mut Plan, recorded: &[u8])
     requires { ⌜ length (now plan) ≡ planRows ⌝ }
     requires { ⌜ Sound (now recorded) ⌝ }
-    ensures { λ _. ⌜ RecordedHalf (now (recorded .entry)) (now (plan .entry)) (now (plan .exit)) (count (now (recorded .entry))) ⌝ }
+    ensures { λ _. ⌜ RecordedMade (now (recorded .entry)) (now (plan .entry)) (now (plan .exit)) ⌝ }
 {
     let neighbours = neighbour_table(recorded);
     let mut labels = [[Limits::NONE; Limits::PLACES]; Limits::ROWS];
@@ -271,19 +302,21 @@ fn plan_recorded(plan: &mut Plan, recorded: &[u8])
     let order = o.at;
     let at = places(o);
     store_recorded(plan, recorded, &neighbours, &labels, &order, &at);
+    store_vertices(plan, recorded, Blocks::RECORDED_VERTEX);
 }
 
 // The found half. The recorded half stays.
 fn plan_found(plan: &mut Plan, found: &[u8])
     requires { ⌜ length (now plan) ≡ planRows ⌝ }
     requires { ⌜ Sound (now found) ⌝ }
-    ensures { λ _. ⌜ FoundHalf (now (found .entry)) (now (plan .entry)) (now (plan .exit)) (count (now (found .entry))) ⌝ }
+    ensures { λ _. ⌜ FoundMade (now (found .entry)) (now (plan .entry)) (now (plan .exit)) ⌝ }
 {
     let neighbours = neighbour_table(found);
     let mut labels = [[Limits::NONE; Limits::PLACES]; Limits::ROWS];
     edge_label_table(&mut labels, found, &neighbours);
     let begins = starts(found, &neighbours);
     store_found(plan, found, &neighbours, &labels, &begins);
+    store_vertices(plan, found, Blocks::FOUND_VERTEX);
 }
 
 // The plan of two accepted trees, over whatever stood there.

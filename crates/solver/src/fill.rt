@@ -60,7 +60,7 @@ fn fill_pair(
     requires { ⌜ length (now g) ≡ pairLimit ⌝ }
     ensures { λ _. ⌜ (now (work .exit) ≡ fill (now (table .entry)) (now (recorded .entry)) (now (found .entry)) (now (work .entry)) (run .from) (run .count)) × (length (now (g .exit)) ≡ pairLimit) ⌝ }
 {
-    let w = vertex_pair(table, recorded, found, u, v);
+    let w = vertex_pair(table, plan, u, v);
     let k = child_count(plan, u);
     let l = degree(plan, v);
     let first = run.first;

@@ -86,7 +86,7 @@ fn put_pair(
     ensures { λ _. ⌜ RecordsLeft (now (table .entry)) (now (recorded .entry)) (now (found .entry)) (now (work .entry)) (i * width (now (found .entry)) + offset (now (found .entry)) v) (i * width (now (found .entry)) + offset (now (found .entry)) (v + 1)) (now (certificate .entry)) (now (certificate .exit)) ⌝ }
 {
     let u = in_order(plan, i);
-    let w = vertex_pair(table, recorded, found, u, v);
+    let w = vertex_pair(table, plan, u, v);
     let g = pair_gains(table, recorded, found, plan, work, u, v, w);
     let k = child_count(plan, u);
     let d = degree(plan, v);

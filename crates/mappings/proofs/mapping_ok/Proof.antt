@@ -1,11 +1,10 @@
 -- `mapping_ok` meets its contract. Assumes nothing.
-use Rattle.plan.specs.Numbers.{ready-accepted}
 use Rattle.mappings.specs.Tested.{above, tested}
 use Rattle.mappings.proofs.mapping_ok.Statement.{statement}
 use Rattle.mappings.proofs.mapping_ok.Tie as tie
 
 vertices-ok-requires : tie.Need-vertices-ok-requires
-vertices-ok-requires c κs = ready-accepted (c .before .before .before .pre .0)
+vertices-ok-requires c κs = c .before .before .before .pre .0
 
 edges-ok-requires : tie.Need-edges-ok-requires
 edges-ok-requires c κs = c .before .before .before .before .pre .0

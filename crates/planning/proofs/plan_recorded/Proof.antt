@@ -1,5 +1,5 @@
 -- `plan_recorded` meets its contract. Assumes nothing.
-use Rattle.planning.specs.Rows.{order-different, recorded-read}
+use Rattle.planning.specs.Rows.{order-different, recorded-read, recorded-made}
 use borrow.Author.Needs.{needs}
 use Rattle.planning.proofs.plan_recorded.Statement.{statement}
 use Rattle.planning.proofs.plan_recorded.Tie as tie
@@ -29,8 +29,11 @@ store-recorded-requires c κs =
     let a = at-neighbours .before .before in
     (a .pre .0, recorded-read (a .pre .1) (at-neighbours .neighbour-table .ensures) (at-postorder .postorder .ensures) _ _ (at-labels .edge-label-table .ensures) (at-places .places .ensures))
 
+store-vertices-requires : tie.Need-store-vertices-requires
+store-vertices-requires c κs = search needs
+
 returns : tie.Need-returns
-returns c = search needs
+returns c = recorded-made (c .before .before .store-recorded .ensures) (c .store-vertices .ensures)
 
 pub plan-recorded-spec : {M : Type 1} → statement M
 plan-recorded-spec =
@@ -41,4 +44,5 @@ plan-recorded-spec =
     postorder-requires
     places-requires
     store-recorded-requires
+    store-vertices-requires
     returns)

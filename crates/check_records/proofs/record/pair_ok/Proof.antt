@@ -1,7 +1,7 @@
 -- `pair_ok` reads the pair's weight and gains once, for the records of every s. Assumes nothing.
 use mathlib.Core.Path.{refl}
 use Rattle.foundations.specs.Machine.{Same, back}
-use Rattle.plan.specs.Numbers.{ready-accepted}
+use Rattle.plan.specs.Pairs.{weighable, pair-weighs}
 use Rattle.records.specs.Places.{order-low, size-known}
 use Rattle.check_records.specs.Records.{row-pair}
 use borrow.Author.Needs.{needs}
@@ -14,7 +14,7 @@ in-order-requires c κs = let p = c .before .before .before .before .pre in size
 vertex-pair-requires : tie.Need-vertex-pair-requires
 vertex-pair-requires c κs =
     let p = c .before .before .before .before .before .pre in
-    (ready-accepted (p .0 .ready), (rw (c .in-order .ensures) (order-low (p .0 .laid .inputs) _ (p .1 .0) .0), p .1 .1))
+    weighable (p .0 .ready) (rw (c .in-order .ensures) (order-low (p .0 .laid .inputs) _ (p .1 .0) .0)) (p .1 .1)
 
 gains-requires : tie.Need-gains-requires
 gains-requires c κs =
@@ -27,7 +27,7 @@ choices-ok-requires c κs =
     let o = w .before .in-order .ensures in
     let p = c .before .before .before .before .before .before .before .before .before .pre in
     let e : Same (w .vertex-pair .result) = back (w .vertex-pair .ok) in
-    (p .0, rw e (record { row = p .1 .0; low = p .1 .1; gains = rw o at (c .before .gains .ensures); weighs = rw o at (w .vertex-pair .ensures .is) }))
+    (p .0, rw e (record { row = p .1 .0; low = p .1 .1; gains = rw o at (c .before .gains .ensures); weighs = pair-weighs (p .0 .ready) (order-low (p .0 .laid .inputs) _ (p .1 .0) .0) (p .1 .1) (rw o at (w .vertex-pair .ensures)) .is }))
 
 returns : tie.Need-returns
 returns c = search needs

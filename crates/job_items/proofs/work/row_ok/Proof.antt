@@ -8,7 +8,8 @@ use Rattle.foundations.specs.Machine.{Same, back}
 use Rattle.model.specs.Limits.{widthLimit, degreeLimit}
 use Rattle.model.specs.Tree.{count}
 use Rattle.model.specs.Order.{offset}
-use Rattle.plan.specs.Numbers.{ready-accepted, width-few}
+use Rattle.plan.specs.Numbers.{width-few}
+use Rattle.plan.specs.Pairs.{weighable, pair-weighs}
 use Rattle.job_items.specs.Work.{rowTest, SlotsAt, row-none, row-vertex, row-end, row-pair}
 use Rattle.job_items.proofs.work.row_ok.Statement.{statement}
 use Rattle.job_items.proofs.work.row_ok.Tie as tie
@@ -43,7 +44,7 @@ loop-holds c = (omega arith, row-none _ _, refl)
 vertex-pair-requires : tie.Need-vertex-pair-requires Inv-loop μ-loop
 vertex-pair-requires c κs =
     let s = c .before .before .before .before .before in
-    (ready-accepted (s .pre .0), (s .pre .1 .0, vertex c .low))
+    weighable (s .pre .0) (s .pre .1 .0) (vertex c .low)
 
 degree-requires : tie.Need-degree-requires Inv-loop μ-loop
 degree-requires c κs = vertex (c .before) .few
@@ -84,7 +85,7 @@ loop-again c =
     let d : Same w = back {z = w} (p .vertex-pair .ok) in
     let end = rw (c .before .before .degree .ensures) at (c .before .lesser .ensures) in
     let e = row-end (s .pre .0) (s .args .upto) (s .pre .1 .1) (l .loop .k) (l .loop .v) (c .before .lesser .result) (l .loop .inv .0) (l .loop .inv .1) (t .loop-test .taken) end in
-    (e .0, e .1, row-pair (s .pre .0) (s .args .upto) (s .pre .1 .1) (s .args .work .now) (s .args .base) (s .args .u) (l .loop .k) (l .loop .v) (c .before .lesser .result) w (l .loop .ok) (c .pair-ok .result) (l .loop .inv .0) (l .loop .inv .1) (t .loop-test .taken) end (p .vertex-pair .ensures .is) (l .loop .inv .2) (rw d at (c .pair-ok .ensures)))
+    (e .0, e .1, row-pair (s .pre .0) (s .args .upto) (s .pre .1 .1) (s .args .work .now) (s .args .base) (s .args .u) (l .loop .k) (l .loop .v) (c .before .lesser .result) w (l .loop .ok) (c .pair-ok .result) (l .loop .inv .0) (l .loop .inv .1) (t .loop-test .taken) end (pair-weighs (s .pre .0) (s .pre .1 .0) (vertex t .low) (p .vertex-pair .ensures) .is) (l .loop .inv .2) (rw d at (c .pair-ok .ensures)))
 
 returns : tie.Need-returns Inv-loop μ-loop
 returns c =

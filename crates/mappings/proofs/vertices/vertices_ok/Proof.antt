@@ -7,21 +7,23 @@ use Rattle.foundations.specs.Lists.{every, every-step, every-end}
 use Rattle.model.specs.Limits.{vertexLimit}
 use Rattle.model.specs.Tree.{count}
 use Rattle.model.specs.Mapping.{vertexOk}
+use Rattle.trees.specs.Accepted.{whole}
+use Rattle.plan.specs.Numbers.{ready-accepted}
 use Rattle.mappings.proofs.vertices.vertices_ok.Statement.{statement}
 use Rattle.mappings.proofs.vertices.vertices_ok.Tie as tie
 
 abbrev Inv-loop : tie.InvT-loop
-Inv-loop table recorded found mapping n ok₀ u₀ ok u = (u ≤ n) × (n ≤ vertexLimit) × (ok ≡ every (vertexOk table recorded found mapping) u)
+Inv-loop table recorded found plan mapping n ok₀ u₀ ok u = (u ≤ n) × (n ≤ vertexLimit) × (ok ≡ every (vertexOk table recorded found mapping) u)
 
 abbrev μ-loop : tie.MeasureT-loop
-μ-loop table recorded found mapping n ok₀ u₀ ok u = n - u
+μ-loop table recorded found plan mapping n ok₀ u₀ ok u = n - u
 
 vertex-count-requires : tie.Need-vertex-count-requires Inv-loop μ-loop
-vertex-count-requires c κs = search needs
+vertex-count-requires c κs = whole (ready-accepted (c .before .before .before .pre) .recorded .ends)
 
 loop-holds : tie.Need-loop-holds Inv-loop μ-loop
 unfolding every
-loop-holds c = let s = c .before .before .before .before in (omega arith, omega (arith, c .vertex-count .ensures, s .pre .recorded .ends .few), refl)
+loop-holds c = let s = c .before .before .before .before in (omega arith, omega (arith, c .vertex-count .ensures, ready-accepted (s .pre) .recorded .ends .few), refl)
 
 cast-loop : tie.Need-cast-loop Inv-loop μ-loop
 cast-loop c = search needs

@@ -16,10 +16,10 @@ use Rattle.mappings.proofs.weigh.sum_vertices.Statement.{statement}
 use Rattle.mappings.proofs.weigh.sum_vertices.Tie as tie
 
 abbrev Inv-loop : tie.InvT-loop
-Inv-loop table recorded found mapping n s₀ u₀ s u = (u ≤ n) × (n ≤ vertexLimit) × SumTo u (sumℤ u (vertexTerm table recorded found (take (count recorded) mapping))) (toZ w32 s)
+Inv-loop table recorded found plan mapping n s₀ u₀ s u = (u ≤ n) × (n ≤ vertexLimit) × SumTo u (sumℤ u (vertexTerm table recorded found (take (count recorded) mapping))) (toZ w32 s)
 
 abbrev μ-loop : tie.MeasureT-loop
-μ-loop table recorded found mapping n s₀ u₀ s u = n - u
+μ-loop table recorded found plan mapping n s₀ u₀ s u = n - u
 
 vertex-count-requires : tie.Need-vertex-count-requires Inv-loop μ-loop
 vertex-count-requires c κs = search needs
@@ -31,7 +31,9 @@ cast-loop : tie.Need-cast-loop Inv-loop μ-loop
 cast-loop c = search needs
 
 vertex-term-requires : tie.Need-vertex-term-requires Inv-loop μ-loop
-vertex-term-requires c κs = search needs
+vertex-term-requires c κs =
+    let s = c .before .before .before .before .before .before .before in
+    (s .pre .0, (s .pre .1, omega arith))
 
 add-requires : tie.Need-add-requires Inv-loop μ-loop
 add-requires c κs = rw (back (c .vertex-term .ok)) (small-sum {k = 1} (omega arith) (c .before .before .loop .inv .2) (c .vertex-term .ensures))

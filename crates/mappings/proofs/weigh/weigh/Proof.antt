@@ -15,7 +15,7 @@ module _ (c : tie.After-shared-slice-known4) where
   made = record { accepted = ready-accepted (start .pre .0); long = start .pre .1 .0; mapping = start .pre .1 .1 }
 
 sum-vertices-requires : tie.Need-sum-vertices-requires
-sum-vertices-requires c κs = made c
+sum-vertices-requires c κs = (made c, start c .pre .0)
 
 sum-edges-requires : tie.Need-sum-edges-requires
 sum-edges-requires c κs = (made (c .before), c .before .before .before .before .before .pre .0)

@@ -1,7 +1,7 @@
 -- `fill_pair` meets its contract. Assumes nothing.
 use Rattle.solver.specs.FillLaws.{fill-none, fill-next, fill-lent, length-repeated, run-forbidden, run-leaf, run-table, run-number}
-use Rattle.plan.specs.Numbers.{number-few, ready-accepted}
-use Rattle.plan.specs.Pairs.{pair-low, degree-few}
+use Rattle.plan.specs.Numbers.{number-few}
+use Rattle.plan.specs.Pairs.{VertexPair, weighable, pair-weighs, pair-low, degree-few}
 use Rattle.integers.specs.Laws.{weightOk-number}
 use Rattle.model.specs.Values.{fill}
 use Rattle.subtrees.specs.Filling.{length-fill}
@@ -23,7 +23,15 @@ abbrev μ-loop : tie.MeasureT-loop
 vertex-pair-requires : tie.Need-vertex-pair-requires Inv-loop μ-loop
 vertex-pair-requires c κs =
     let p = c .before .before .before .pre in
-    (ready-accepted (p .0), (p .1 .1 .0 .pair .u-low, p .1 .1 .0 .pair .v-low))
+    weighable (p .0) (p .1 .1 .0 .pair .u-low) (p .1 .1 .0 .pair .v-low)
+
+-- the pair's weight
+weighs : (c : tie.After-vertex-pair Inv-loop μ-loop) →
+    let a = c .before .before .before .before .args in
+    VertexPair (a .table .now) (a .recorded .now) (a .found .now) (a .u) (a .v) (c .vertex-pair .result)
+weighs c =
+    let p = c .before .before .before .before .pre in
+    pair-weighs (p .0) (p .1 .1 .0 .pair .u-low) (p .1 .1 .0 .pair .v-low) (c .vertex-pair .ensures)
 
 child-count-requires : tie.Need-child-count-requires Inv-loop μ-loop
 child-count-requires c κs =
@@ -55,7 +63,7 @@ stored-value-requires c κs =
     let s = at-pair .before .before .before .before in
     let p = s .pre in
     let b : Same (at-pair .vertex-pair .result) = back (at-pair .vertex-pair .ok) in
-    (rw b (weightOk-number _ (at-pair .vertex-pair .ensures .ok) (sym (rw b at (at-forbidden .is-forbidden .ensures)) ∙ c .before .before .if1 .left)), omega arith)
+    (rw b (weightOk-number _ (weighs at-pair .ok) (sym (rw b at (at-forbidden .is-forbidden .ensures)) ∙ c .before .before .if1 .left)), omega arith)
 
 repeat-requires-2 : tie.Need-repeat-requires-2 Inv-loop μ-loop
 repeat-requires-2 c κs =
@@ -76,7 +84,7 @@ returns-2 c =
     let b : Same (at-pair .vertex-pair .result) = back (at-pair .vertex-pair .ok) in
     let at-stored = c .before .before in
     let d : Same (at-stored .stored-value .result) = back (at-stored .stored-value .ok) in
-    ((rw d at (c .before .repeat2 .ensures)) ∙ run-leaf (p .0) (p .1 .1 .0) _ _ (at-pair .vertex-pair .ensures) (sym (rw b at (at-forbidden .is-forbidden .ensures)) ∙ c .before .before .before .before .before .if1 .left) (sym (at-children .child-count .ensures) ∙ c .before .before .before .before .if2 .taken) ((rw b at (at-stored .stored-value .ensures)) .is) _, p .1 .1 .1)
+    ((rw d at (c .before .repeat2 .ensures)) ∙ run-leaf (p .0) (p .1 .1 .0) _ _ (weighs at-pair) (sym (rw b at (at-forbidden .is-forbidden .ensures)) ∙ c .before .before .before .before .before .if1 .left) (sym (at-children .child-count .ensures) ∙ c .before .before .before .before .if2 .taken) ((rw b at (at-stored .stored-value .ensures)) .is) _, p .1 .1 .1)
 
 gains-requires : tie.Need-gains-requires Inv-loop μ-loop
 gains-requires c κs =
@@ -116,7 +124,7 @@ stored-value-requires-2 c κs =
     let s = at-pair .before .before .before .before in
     let p = s .pre in
     let b : Same (at-pair .vertex-pair .result) = back (at-pair .vertex-pair .ok) in
-    (rw b (weightOk-number _ (at-pair .vertex-pair .ensures .ok) (sym (rw b at (at-forbidden .is-forbidden .ensures)) ∙ at-gains .before .before .before .before .if1 .left)), (let h = c .heaviest .ensures .small in omega arith))
+    (rw b (weightOk-number _ (weighs at-pair .ok) (sym (rw b at (at-forbidden .is-forbidden .ensures)) ∙ at-gains .before .before .before .before .if1 .left)), (let h = c .heaviest .ensures .small in omega arith))
 
 add-x : tie.Need-add-x Inv-loop μ-loop
 add-x c =
@@ -164,7 +172,7 @@ loop-again c =
     let b : Same (at-pair .vertex-pair .result) = back (at-pair .vertex-pair .ok) in
     let t = c .before .before .before .loop-test .taken in
     let d : Same (c .stored-value2 .result) = back (c .stored-value2 .ok) in
-    (omega arith, rw d (fill-next _ _ _ _ _ _ _ _ (l .loop .inv .1) (run-number (p .0) (p .1 .1 .0) _ _ _ _ (at-children .child-count .ensures) (at-degree .degree .ensures) (at-gains .gains .ensures) _ (at-pair .vertex-pair .ensures) (sym (rw b at (at-forbidden .is-forbidden .ensures)) ∙ at-gains .before .before .before .before .if1 .left) _ t _ _ (c .before .heaviest .ensures) ((rw b at (c .stored-value2 .ensures)) .is))))
+    (omega arith, rw d (fill-next _ _ _ _ _ _ _ _ (l .loop .inv .1) (run-number (p .0) (p .1 .1 .0) _ _ _ _ (at-children .child-count .ensures) (at-degree .degree .ensures) (at-gains .gains .ensures) _ (weighs at-pair) (sym (rw b at (at-forbidden .is-forbidden .ensures)) ∙ at-gains .before .before .before .before .if1 .left) _ t _ _ (c .before .heaviest .ensures) ((rw b at (c .stored-value2 .ensures)) .is))))
 
 same-length-3 : tie.Need-same-length-3 Inv-loop μ-loop
 same-length-3 c = ap length (c .before .loop .inv .1) ∙ length-fill _ _ _ _ _ _
@@ -185,7 +193,7 @@ returns c =
     let s = at-pair .before .before .before .before in
     let p = s .pre in
     let b : Same (at-pair .vertex-pair .result) = back (at-pair .vertex-pair .ok) in
-    (c .before .repeat .ensures ∙ run-forbidden (p .0) (p .1 .1 .0) _ (at-pair .vertex-pair .ensures) (sym (rw b at (at-forbidden .is-forbidden .ensures)) ∙ c .before .before .before .if1 .taken) _, p .1 .1 .1)
+    (c .before .repeat .ensures ∙ run-forbidden (p .0) (p .1 .1 .0) _ (weighs at-pair) (sym (rw b at (at-forbidden .is-forbidden .ensures)) ∙ c .before .before .before .if1 .taken) _, p .1 .1 .1)
 
 pub fill-pair-spec : {M : Type 1} → statement M
 fill-pair-spec =

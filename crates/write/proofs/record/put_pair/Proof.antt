@@ -7,8 +7,8 @@ use Rattle.foundations.specs.Machine.{Same, back}
 use Rattle.model.specs.Limits.{degreeLimit}
 use Rattle.model.specs.Order.{choices, offset, width}
 use Rattle.plan.specs.Plan.{Pair}
-use Rattle.plan.specs.Numbers.{ready-accepted, ready-sound}
-use Rattle.plan.specs.Pairs.{pair-low, degree-is, degree-few}
+use Rattle.plan.specs.Numbers.{ready-sound}
+use Rattle.plan.specs.Pairs.{weighable, pair-weighs, pair-low, degree-is, degree-few}
 use Rattle.records.specs.Places.{ready-inputs, found-known}
 use Rattle.duals.specs.Left.{DualsAt}
 use Rattle.duals.specs.Solved.{PairGains, pair-table, duals-at}
@@ -49,7 +49,7 @@ vertex-pair-requires : tie.Need-vertex-pair-requires Inv-loop μ-loop
 vertex-pair-requires c κs =
     let p = c .before .before .before .before .before .pre in
     let Q = pair c in
-    (ready-accepted (p .0), (Q .u-low, Q .v-low))
+    weighable (p .0) (Q .u-low) (Q .v-low)
 
 pair-gains-requires : tie.Need-pair-gains-requires Inv-loop μ-loop
 pair-gains-requires c κs =
@@ -101,7 +101,8 @@ duals c =
     let b : Same (at-pair .vertex-pair .result) = back (at-pair .vertex-pair .ok) in
     let ek = o .before .before .before .child-count .ensures in
     let ed = o .before .before .degree .ensures in
-    duals-at (p .0) (pair (at-pair .before)) (gains (o .before .before .before .before)) ek ed (l .loop .q) (here-choice (p .0) (p .1 .1 .0) (p .1 .1 .1 .1 .0) (p .1 .1 .1 .1 .1) (at-pair .before .in-order .ensures) ek ed (c .before .before .loop-test .taken)) (at-pair .vertex-pair .ensures) (rw b at (c .duals-of .ensures))
+    let Q = pair (at-pair .before) in
+    duals-at (p .0) Q (gains (o .before .before .before .before)) ek ed (l .loop .q) (here-choice (p .0) (p .1 .1 .0) (p .1 .1 .1 .1 .0) (p .1 .1 .1 .1 .1) (at-pair .before .in-order .ensures) ek ed (c .before .before .loop-test .taken)) (pair-weighs (p .0) (Q .u-low) (Q .v-low) (at-pair .vertex-pair .ensures)) (rw b at (c .duals-of .ensures))
 
 duals-of-requires : tie.Need-duals-of-requires Inv-loop μ-loop
 duals-of-requires c κs =
