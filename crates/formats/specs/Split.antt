@@ -1,7 +1,7 @@
 -- What the split of the match program's input says, and that its two numbers give the model's parts. Assumes nothing.
 use mathlib.Core.Path.{_≡_, refl, sym, ap, _∙_}
 use mathlib.Core.Logic.{⊎-elim}
-use mathlib.Core.Bool.{true, false, not, true≢false}
+use mathlib.Core.Bool.{Bool, true, false, not, _||_, cond, true≢false}
 use mathlib.Core.List.{List, [], _∷_}
 use Prim.Native.Nat.{ℕ, _+_, _-_, _≤_, _<_, min}
 use native.Mathlib.Omega.{arith}
@@ -9,10 +9,10 @@ use lib.Dec.{eqb}
 use lib.ListN.{length, take, drop, length-drop, drop-of-length-le, List·getD-eq-default}
 use lib.Seq.{take-all, drop-drop}
 use borrow.Author.Tests.{eqb-false}
-use Rattle.foundations.specs.Tests.{less?, and-false, and-split, is-false}
-use Rattle.model.specs.Bytes.{byteAt, isMark}
+use Rattle.foundations.specs.Tests.{less?, and-false, or-true, or-false, and-split, is-false}
+use Rattle.model.specs.Bytes.{byteAt, isMark, vertexMark, serialMark}
 use Rattle.model.specs.Table.{tableLength}
-use Rattle.model.specs.Tree.{count}
+use Rattle.model.specs.Tree.{count, withSerials, vertexMarkOf}
 use Rattle.model.specs.Input.{tablePart, afterTable, lengthKnown, treeLength, recordedPart, foundPart}
 
 -- ---- the length of a tree, from its head and its first vertex mark
@@ -21,9 +21,18 @@ use Rattle.model.specs.Input.{tablePart, afterTable, lengthKnown, treeLength, r
 no-mark : (s : List ℕ) (m : ℕ) → length s ≤ 4 → eqb 0 m ≡ false → isMark s 3 (0xB1 ∷ m ∷ []) ≡ false
 no-mark s m h e = rw (List·getD-eq-default s 0 {n = 4} h, e) (and-false (eqb (byteAt s 3) 0xB1))
 
+-- the mark of the tree's kind is either mark
+pub either : (s : List ℕ) → (isMark s 3 vertexMark || isMark s 3 serialMark) ≡ isMark s 3 (vertexMarkOf s)
+unfolding vertexMarkOf withSerials
+either s = go (isMark s 3 serialMark) refl
+  where
+    go : (t : Bool) → isMark s 3 serialMark ≡ t → (isMark s 3 vertexMark || isMark s 3 serialMark) ≡ isMark s 3 (cond (isMark s 3 serialMark) serialMark vertexMark)
+    go true e = rw e (or-true (isMark s 3 vertexMark) ∙ sym e)
+    go false e = rw e (or-false (isMark s 3 vertexMark))
+
 pub length-unknown : (s : List ℕ) → length s ≤ 4 → lengthKnown s ≡ false
 unfolding lengthKnown
-length-unknown s h = rw (no-mark s 2 h refl, no-mark s 7 h refl) (and-false (not (eqb (count s) 0)))
+length-unknown s h = rw (← either s, no-mark s 2 h refl, no-mark s 7 h refl) (and-false (not (eqb (count s) 0)))
 
 pub length-says : (s : List ℕ) → lengthKnown s ≡ true → (4 < length s) × (1 ≤ count s)
 unfolding lengthKnown

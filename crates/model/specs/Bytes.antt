@@ -1,4 +1,4 @@
--- Bytes, marks, and signed 32-bit numbers in them. Paper 01, "Bytes of a table and a layout".
+-- Bytes, marks, and 32-bit numbers in them, unsigned for serials and signed for weights. Paper 01, "Bytes of a table and a layout"; paper 02, [3].
 -- A list of bytes is total: past its end stand zeros, and no mark has a zero.
 use Prim.Native.Nat.{ℕ, _+_, _*_, _-_, _/_, _%_}
 use mathlib.Core.Bool.{Bool, cond, _&&_}
@@ -39,13 +39,13 @@ vertexRowMark = 0xB1 ∷ 0x05 ∷ []
 abbrev pub edgeRowMark : List ℕ
 edgeRowMark = 0xB1 ∷ 0x06 ∷ []
 
--- ---- weights are 4 bytes, low byte first, two's complement
+-- ---- serials and weights are 4 bytes, low byte first, a weight in two's complement
 
 -- the number of four bytes, low byte first
 abbrev pub word : ℕ → ℕ → ℕ → ℕ → ℕ
 word b0 b1 b2 b3 = b0 + 256 * b1 + 65536 * b2 + 16777216 * b3
 
--- the number at place i
+-- the unsigned number at place i
 abbrev pub wordAt : List ℕ → ℕ → ℕ
 wordAt s i = word (byteAt s i) (byteAt s (i + 1)) (byteAt s (i + 2)) (byteAt s (i + 3))
 
@@ -62,7 +62,7 @@ int32 b0 b1 b2 b3 = signed32 (word b0 b1 b2 b3)
 
 -- the integer at place i
 abbrev pub int32At : List ℕ → ℕ → ℤ
-int32At s i = int32 (byteAt s i) (byteAt s (i + 1)) (byteAt s (i + 2)) (byteAt s (i + 3))
+int32At s i = signed32 (wordAt s i)
 
 -- the bytes with the number n, below 2^32, or the integer z, at place i
 unfoldable pub putWord : List ℕ → ℕ → ℕ → List ℕ

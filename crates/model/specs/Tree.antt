@@ -15,8 +15,8 @@ use Rattle.model.specs.Refusals.{Item, item, firstOf}
 abbrev pub count : List ℕ → ℕ
 count s = byteAt s 2
 
--- "A layout uses one kind of device record throughout": the mark of the first says which, and item 3 asks it of all. Neither mark counts as the
--- shorter kind here, and item 3 refuses it.
+-- "A layout uses one kind of device record throughout": the mark of the first says which, and item 3 asks it of all. A first mark that is neither of the
+-- two counts as the shorter kind here, and item 3 refuses it.
 unfoldable pub withSerials : List ℕ → Bool
 withSerials s = isMark s 3 serialMark
 

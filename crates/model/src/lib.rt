@@ -37,7 +37,7 @@ impl Limits {
     pub const NONE: u8 = 255;
 }
 
-// A byte for each place of a vertex: its neighbours, then NONE; or what belongs to each of them.
+// A byte for each place of a vertex: its neighbours, then NONE; or what belongs to each of them. In the plan also what belongs to the vertex itself.
 pub type Row = [u8; Limits::PLACES];
 
 // Such a row for each vertex of a tree.

@@ -31,12 +31,13 @@ pub fn vertex_pair(table: &[u8], plan: &Plan, u: u8, v: u8) -> i32
     requires { ⌜ Weighable (now table) (now plan) u v ⌝ }
     ensures { λ r. ⌜ PairWeighs (now (table .entry)) (now (plan .entry)) u v r ⌝ }
 {
+    let i = label(plan, Blocks::RECORDED_VERTEX, u);
+    let j = label(plan, Blocks::FOUND_VERTEX, v);
+    let w = vertex_weight_at(table, i, j);
     if serials_apart(plan, u, v) {
         return Limits::FORBIDDEN;
     }
-    let i = label(plan, Blocks::RECORDED_VERTEX, u);
-    let j = label(plan, Blocks::FOUND_VERTEX, v);
-    vertex_weight_at(table, i, j)
+    w
 }
 
 // The weight of the pair of a recorded edge and a found edge, by what the plan says of each.

@@ -21,3 +21,4 @@ pub mod Accepted
 pub mod ValueRange
 pub mod Filling
 pub mod Theorems
+pub mod Serials

@@ -1,7 +1,7 @@
 -- `is_length_known` meets its contract. Assumes nothing.
 use mathlib.Core.Path.{sym}
 use Rattle.model.specs.Input.{lengthKnown}
-use Rattle.formats.specs.Split.{length-unknown}
+use Rattle.formats.specs.Split.{either, length-unknown}
 use native.Mathlib.Omega.{arith}
 use borrow.Author.Needs.{needs}
 use Rattle.formats.proofs.split.is_length_known.Statement.{statement}
@@ -21,7 +21,7 @@ shared-slice-read-result c = search needs
 
 returns-2 : tie.Need-returns-2
 unfolding lengthKnown
-returns-2 c = rw (c .before .is-mark2 .ensures, c .before .before .before .is-mark .ensures)
+returns-2 c = rw (c .before .is-mark2 .ensures, c .before .before .before .is-mark .ensures, ← either _)
 
 pub is-length-known-spec : {M : Type 1} → statement M
 is-length-known-spec =
