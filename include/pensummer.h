@@ -10,11 +10,13 @@
  * table, the tree recorded at commissioning (n vertices) and the one found (m vertices). No function asks anything of
  * their content, keeps a pointer, allocates, or reads or writes past an end.
  *
- * A refusal number is 0 where the call was carried out, else the number of the first item of paper 01, "Why a call is
- * turned down", that applies among those that the call tests, in its order. Every call tests 25 after 7 and 26 after 12
- * as well. A call that is refused changes nothing that it was lent.
+ * A refusal number is 0 where the call was carried out, else the number of the first item that applies among those that
+ * the call tests, in its order: items 1 to 24 are those of paper 01, "Why a call is turned down", 25 and 26 those of
+ * paper 02, [3]. A call that tests 7 tests 25 next, and one that tests 12 tests 26 next. A call that is refused changes
+ * nothing that it was lent.
  *
- * Two vertices whose serials are known, which is not 0, and different are a forbidden pair, whatever the table says.
+ * A recorded and a found vertex whose serials are both known (not 0) and differ are a forbidden pair, whatever the
+ * table says.
  *
  * Work numbers, and the mapping or certificate that a call writes, may have more room than needed: what lies behind is
  * left as it was. A table, a tree, and a certificate that is checked are refused if their count is not exactly their
@@ -64,8 +66,8 @@ extern "C" {
 /* A certificate is never longer, in bytes. docs/FORMAT.md says how this follows from the limits above. */
 #define PENSUMMER_CERTIFICATE_MOST 278736
 
-/* ---- refusals: the items in the order in which they are tested, but for the last two. 0 says that the call was carried
- * out. */
+/* ---- refusals: the items in the order in which they are tested, but for the last two. 0 says that the call was
+ * carried out. */
 
 /* The table's length, a mark, or its number of labels is wrong. */
 #define PENSUMMER_TABLE_FORM 1
@@ -158,9 +160,9 @@ struct pensummer_sizes_result {
 
 /* ---- calls */
 
-/* How much to lend for this table and these trees, so that memory can be set aside first. Tests 1 to 12. Solves
- * nothing, and is lent nothing but what it reads. Where it is not refused, of the other calls on the same table and
- * trees:
+/* How much to lend for this table and these trees, so that memory can be set aside first. Tests 1 to 12, 25 and 26.
+ * Solves nothing, and is lent nothing but what it reads. Where it is not refused, of the other calls on the same table
+ * and trees:
  *
  * - with `work` work numbers or more none is refused by 13, and with fewer each is that tests it;
  * - the counts of a job's advances, over memory that nothing but the job's own calls has changed since the start, add
@@ -172,9 +174,9 @@ struct pensummer_sizes_result pensummer_sizes(const uint8_t *table, size_t table
                                               const uint8_t *recorded, size_t recorded_len,
                                               const uint8_t *found, size_t found_len);
 
-/* The match in one call. Tests 1 to 13 and 18. Leaves all values in order in the first n(3m - 2) work numbers, and in
- * the first n bytes of `mapping` a heaviest mapping: for each recorded vertex its partner, or 255. The weight is that
- * mapping's, and no mapping weighs more. */
+/* The match in one call. Tests 1 to 13, 18, 25 and 26. Leaves all values in order in the first n(3m - 2) work numbers,
+ * and in the first n bytes of `mapping` a heaviest mapping: for each recorded vertex its partner, or 255. The weight is
+ * that mapping's, and no mapping weighs more. */
 struct pensummer_match_result pensummer_match(const uint8_t *table, size_t table_len,
                                               const uint8_t *recorded, size_t recorded_len,
                                               const uint8_t *found, size_t found_len,
@@ -184,18 +186,18 @@ struct pensummer_match_result pensummer_match(const uint8_t *table, size_t table
 /* A fresh job record: 1 in `idle`, 0 in the others. */
 struct pensummer_job pensummer_fresh(void);
 
-/* Begins a job, also over an earlier one; a caller's first record is a fresh one. Tests 1 to 13; gives the refusal
- * number. Clears the idle mark, sets n and m to the trees' vertex counts and the position to 0; the total and all work
- * numbers stay. */
+/* Begins a job, also over an earlier one; a caller's first record is a fresh one. Tests 1 to 13, 25 and 26; gives the
+ * refusal number. Clears the idle mark, sets n and m to the trees' vertex counts and the position to 0; the total and
+ * all work numbers stay. */
 uint32_t pensummer_start(struct pensummer_job *job,
                          const uint8_t *table, size_t table_len,
                          const uint8_t *recorded, size_t recorded_len,
                          const uint8_t *found, size_t found_len,
                          const int32_t *work, size_t work_len);
 
-/* Solves the smaller of `budget` and what is left. Tests 1 to 16. Fills exactly that many work numbers, from the
- * position on, each with its subproblem's value by the numbers before it, as lent or as this call has filled them, and
- * at most PENSUMMER_VALUE_MOST; adds the count to the position and to the total, which stops at 4,294,967,295. */
+/* Solves the smaller of `budget` and what is left. Tests 1 to 16, 25 and 26. Fills exactly that many work numbers, from
+ * the position on, each with its subproblem's value by the numbers before it, as lent or as this call has filled them,
+ * and at most PENSUMMER_VALUE_MOST; adds the count to the position and to the total, which stops at 4,294,967,295. */
 struct pensummer_advance_result pensummer_advance(struct pensummer_job *job,
                                                   const uint8_t *table, size_t table_len,
                                                   const uint8_t *recorded, size_t recorded_len,
@@ -203,10 +205,10 @@ struct pensummer_advance_result pensummer_advance(struct pensummer_job *job,
                                                   uint32_t budget,
                                                   int32_t *work, size_t work_len);
 
-/* Reads the mapping of a job whose subproblems are all solved. Tests 1 to 18. Leaves a mapping in the first n bytes of
- * `mapping`, and gives its exact weight; over memory that nothing but the job's own calls has changed since the start,
- * it is a heaviest one. That memory is the table, the two trees, the record and the first n(3m - 2) work numbers: what
- * lies behind them may be another in each call, and of another length. Changes no record. */
+/* Reads the mapping of a job whose subproblems are all solved. Tests 1 to 18, 25 and 26. Leaves a mapping in the first
+ * n bytes of `mapping`, and gives its exact weight; over memory that nothing but the job's own calls has changed since
+ * the start, it is a heaviest one. That memory is the table, the two trees, the record and the first n(3m - 2) work
+ * numbers: what lies behind them may be another in each call, and of another length. Changes no record. */
 struct pensummer_match_result pensummer_finish(const struct pensummer_job *job,
                                                const uint8_t *table, size_t table_len,
                                                const uint8_t *recorded, size_t recorded_len,
@@ -214,16 +216,16 @@ struct pensummer_match_result pensummer_finish(const struct pensummer_job *job,
                                                const int32_t *work, size_t work_len,
                                                uint8_t *mapping, size_t mapping_len);
 
-/* Writes a certificate into the front of `certificate`. Tests 1 to 13 and 19. Leaves all values in order in the first
- * n(3m - 2) work numbers. The certificate holds a heaviest mapping, its weight and all values, and the check accepts
- * it. */
+/* Writes a certificate into the front of `certificate`. Tests 1 to 13, 19, 25 and 26. Leaves all values in order in the
+ * first n(3m - 2) work numbers. The certificate holds a heaviest mapping, its weight and all values, and the check
+ * accepts it. */
 struct pensummer_write_result pensummer_write(const uint8_t *table, size_t table_len,
                                               const uint8_t *recorded, size_t recorded_len,
                                               const uint8_t *found, size_t found_len,
                                               int32_t *work, size_t work_len,
                                               uint8_t *certificate, size_t certificate_len);
 
-/* Checks a certificate, whoever wrote it. Tests 1 to 12 and 20 to 24; gives the refusal number, 0 for accepted. Where
+/* Checks a certificate, whoever wrote it. Tests 1 to 12 and 20 to 26; gives the refusal number, 0 for accepted. Where
  * it is accepted, the mapping in it is a heaviest one and the weight in it is that mapping's. */
 uint32_t pensummer_check(const uint8_t *table, size_t table_len,
                          const uint8_t *recorded, size_t recorded_len,

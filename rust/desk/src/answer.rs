@@ -106,7 +106,7 @@ impl<'a> Answer<'a> {
 
     /// What the pair of recorded u and found v weighs.
     pub fn pair_weight(&self, u: usize, v: usize) -> i32 {
-        self.plant.table.vertex.rows[self.plant.recorded.label(u)][self.plant.found.label(v)]
+        self.plant.pair_weight(u, v)
     }
 
     /// Of two mapped neighbours u and x of the recorded tree: the labels of their edge and of their partners' edge, if
@@ -156,7 +156,9 @@ impl<'a> Answer<'a> {
                 return lines.fault(u + 2, format!("found vertex {v} is the partner of {other} already"));
             }
             if self.pair_weight(u, v) == FORBIDDEN {
-                return lines.fault(u + 2, format!("recorded {u} with found {v} is forbidden"));
+                let serials = self.plant.serials_apart(u, v);
+                let why = serials.map_or(String::new(), |[a, b]| format!(": their serials, {a} and {b}, differ"));
+                return lines.fault(u + 2, format!("recorded {u} with found {v} is forbidden{why}"));
             }
         }
         Ok(())

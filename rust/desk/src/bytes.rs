@@ -1,5 +1,5 @@
 //! The bytes of a plant (docs/FORMAT.md), written from a plant and read into one.
-use crate::plant::{At, Edge, Fault, Place, Plant, Table, Tree, Vertex, Weights};
+use crate::plant::{At, Edge, Fault, Place, Plant, Serial, Table, Tree, Vertex, Weights};
 use pensummer::{Inputs, EDGE_LABELS_MOST, VERTEX_LABELS_MOST, VERTICES_MOST};
 use std::rc::Rc;
 
@@ -8,6 +8,9 @@ const VERTEX_ROW: [u8; 2] = [0xB1, 0x05];
 const EDGE_ROW: [u8; 2] = [0xB1, 0x06];
 const TREE: [u8; 2] = [0xB1, 0x01];
 const VERTEX: [u8; 2] = [0xB1, 0x02];
+const VERTEX_WITH_SERIAL: [u8; 2] = [0xB1, 0x07];
+/// The two kinds of vertex records; a tree has one of them throughout.
+const VERTICES: [[u8; 2]; 2] = [VERTEX, VERTEX_WITH_SERIAL];
 const EDGE: [u8; 2] = [0xB1, 0x03];
 
 /// No text in UTF-8 begins with the first byte of a mark.
@@ -33,8 +36,8 @@ impl Bytes {
         [&self.table[..], &self.recorded[..], &self.found[..]].concat()
     }
 
-    /// Bytes that hold a table and two trees, parted as the match program does: each takes the length that its head
-    /// names, or all that is left.
+    /// Bytes that hold a table and two trees, parted as the match program does: each takes the length that its
+    /// beginning tells, or all that is left.
     pub fn split(bytes: &[u8]) -> Bytes {
         let (table, trees) = bytes.split_at(table_length(bytes).min(bytes.len()));
         Bytes { table: table.into(), ..Bytes::split_trees(trees) }
@@ -58,10 +61,14 @@ fn table_length(bytes: &[u8]) -> usize {
     }
 }
 
-/// How long the tree is that begins here by its head; all there is where the head is none.
+/// How long the tree is that begins here, by its number of vertices and the mark of the first; all there is where one
+/// of them tells nothing.
 fn tree_length(bytes: &[u8]) -> usize {
     match bytes {
-        [a, b, n, ..] if [*a, *b] == TREE && in_range(*n, VERTICES_MOST) => 8 * usize::from(*n) - 2,
+        [_, _, n, a, b, ..] if *n > 0 && VERTICES.contains(&[*a, *b]) => {
+            let each = if [*a, *b] == VERTEX { 8 } else { 12 };
+            each * usize::from(*n) - 2
+        }
         _ => bytes.len(),
     }
 }
@@ -91,7 +98,11 @@ pub fn table_bytes(table: &Table) -> Vec<u8> {
 pub fn tree_bytes(tree: &Tree) -> Vec<u8> {
     let mut bytes = TREE.to_vec();
     bytes.push(tree.size() as u8);
-    bytes.extend(tree.vertices.iter().flat_map(|vertex| [VERTEX[0], VERTEX[1], vertex.label]));
+    for (at, vertex) in tree.vertices.iter().enumerate() {
+        bytes.extend(if tree.serials.is_some() { VERTEX_WITH_SERIAL } else { VERTEX });
+        bytes.push(vertex.label);
+        bytes.extend(tree.serials.iter().flat_map(|serials| serials[at].number.to_le_bytes()));
+    }
     bytes.extend(tree.edges.iter().flat_map(|edge| [EDGE[0], EDGE[1], edge.ends[0], edge.ends[1], edge.label]));
     bytes
 }
@@ -103,13 +114,34 @@ pub struct Part<'a> {
     pub offset: usize,
 }
 
-/// The table and the trees of three parts, or the first byte that is of another shape: there the item 1, 3 or 8
-/// applies.
-pub fn read(table: Part, recorded: Part, found: Part) -> Result<Plant, Fault> {
-    let table = Reader::over(table).table()?;
-    let recorded = Reader::over(recorded).tree("recorded")?;
-    let found = Reader::over(found).tree("found")?;
-    Ok(Plant { table, recorded, found })
+/// Bytes of another shape than a plant's.
+pub struct Misshapen {
+    /// What applies to the first part that is of another shape: 1, 3 or 8.
+    pub item: u32,
+    /// The first byte there that is.
+    pub fault: Fault,
+    /// The parts before it, and trees without vertices for the others.
+    pub before: Option<Plant>,
+}
+
+/// The table and the trees of three parts.
+pub fn read(table: Part, recorded: Part, found: Part) -> Result<Plant, Misshapen> {
+    let blank = |part: &Part| {
+        let place = Place { file: part.file.clone(), at: At::Byte(part.offset) };
+        Tree { vertices: Vec::new(), edges: Vec::new(), serials: None, place }
+    };
+    let (no_recorded, no_found) = (blank(&recorded), blank(&found));
+    let table = Reader::over(table).table().map_err(|fault| Misshapen { item: 1, fault, before: None })?;
+    let mut plant = Plant { table, recorded: no_recorded, found: no_found };
+    match Reader::over(recorded).tree("recorded") {
+        Ok(tree) => plant.recorded = tree,
+        Err(fault) => return Err(Misshapen { item: 3, fault, before: Some(plant) }),
+    }
+    match Reader::over(found).tree("found") {
+        Ok(tree) => plant.found = tree,
+        Err(fault) => return Err(Misshapen { item: 8, fault, before: Some(plant) }),
+    }
+    Ok(plant)
 }
 
 struct Reader<'a> {
@@ -131,16 +163,24 @@ impl<'a> Reader<'a> {
     }
 
     fn mark(&mut self, mark: [u8; 2], what: &str) -> Result<(), Fault> {
+        self.one_of(&[mark], what).map(|_| ())
+    }
+
+    /// The mark that stands here, which is to be one of these.
+    fn one_of(&mut self, marks: &[[u8; 2]], what: &str) -> Result<[u8; 2], Fault> {
         let there = match self.part.bytes[self.at..] {
             [a, b, ..] => [a, b],
             _ => return self.fault(self.part.bytes.len(), format!("the bytes end here, before the mark of {what} is whole")),
         };
-        if there != mark {
+        if !marks.contains(&there) {
             let hex = |mark: [u8; 2]| format!("{:02X} {:02X}", mark[0], mark[1]);
-            return self.fault(self.at, format!("{what} begins with {}, not {}", hex(mark), hex(there)));
+            let due: Vec<String> = marks.iter().map(|&mark| hex(mark)).collect();
+            let mixed = marks.iter().chain([&there]).all(|mark| VERTICES.contains(mark));
+            let why = if mixed { "; the vertex records of a tree are all of one kind" } else { "" };
+            return self.fault(self.at, format!("{what} begins with {}, not {}{why}", due.join(" or "), hex(there)));
         }
         self.at += 2;
-        Ok(())
+        Ok(there)
     }
 
     fn take<const N: usize>(&mut self, what: &str) -> Result<[u8; N], Fault> {
@@ -200,17 +240,27 @@ impl<'a> Reader<'a> {
         let head = format!("the head of the {side} tree");
         self.mark(TREE, &head)?;
         let size = self.size("the number of vertices", VERTICES_MOST, &head)?;
-        let vertices = (0..size).map(|at| self.vertex(&format!("{side} vertex {at}"))).collect::<Result<_, _>>()?;
+        let (vertices, serials) = self.vertices(side, size)?;
         let edges = (1..size).map(|at| self.edge(&format!("{side} edge {}", at - 1))).collect::<Result<_, _>>()?;
         self.end(&format!("the {side} tree"))?;
-        Ok(Tree { vertices, edges, place })
+        Ok(Tree { vertices, edges, serials, place })
     }
 
-    fn vertex(&mut self, what: &str) -> Result<Vertex, Fault> {
-        let place = self.place(self.at);
-        self.mark(VERTEX, what)?;
-        let [label] = self.take(what)?;
-        Ok(Vertex { label, name: None, place })
+    /// The vertex records, and their serials if they are of the kind that has them. The first says which kind it is.
+    fn vertices(&mut self, side: &str, size: usize) -> Result<(Vec<Vertex>, Option<Vec<Serial>>), Fault> {
+        let (mut vertices, mut serials) = (Vec::new(), Vec::new());
+        let mut kinds = VERTICES.to_vec();
+        for at in 0..size {
+            let (what, place) = (format!("{side} vertex {at}"), self.place(self.at));
+            kinds = vec![self.one_of(&kinds, &what)?];
+            let [label] = self.take(&what)?;
+            vertices.push(Vertex { label, name: None, place });
+            if kinds == [VERTEX_WITH_SERIAL] {
+                let place = self.place(self.at);
+                serials.push(Serial { number: u32::from_le_bytes(self.take(&what)?), place });
+            }
+        }
+        Ok((vertices, Some(serials).filter(|serials| !serials.is_empty())))
     }
 
     fn edge(&mut self, what: &str) -> Result<Edge, Fault> {

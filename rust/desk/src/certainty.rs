@@ -84,22 +84,19 @@ fn recorded_with(partner: &[Option<usize>], v: usize) -> Option<usize> {
 /// Is there a mapping as heavy that has recorded u?
 fn with_recorded(plant: &Plant, weight: i64, u: usize) -> Asked {
     let mut question = Question::about(plant, Some(u), None);
-    let row = question.recorded[u];
-    let raised = question.found.clone().into_iter().map(|column| (row, column));
-    let whole = question.raise(raised);
+    let whole = question.raise((0..plant.found.size()).filter(|&v| plant.serials_apart(u, v).is_none()).map(|v| (u, v)));
     question.raised(plant, weight, whole)
 }
 
 /// Is there a mapping as heavy that has found v?
 fn with_found(plant: &Plant, weight: i64, v: usize) -> Asked {
     let mut question = Question::about(plant, None, Some(v));
-    let column = question.found[v];
-    let raised = question.recorded.clone().into_iter().map(|row| (row, column));
-    let whole = question.raise(raised);
+    let whole = question.raise((0..plant.recorded.size()).filter(|&u| plant.serials_apart(u, v).is_none()).map(|u| (u, v)));
     question.raised(plant, weight, whole)
 }
 
-/// A plant like another, but with labels that occur only, and with labels of their own for the vertices in question.
+/// A plant like another, serials and all, but with labels that occur only, and with labels of their own for the
+/// vertices in question.
 struct Question {
     weights: Vec<Vec<i32>>,
     recorded: Vec<usize>,
@@ -120,11 +117,11 @@ impl Question {
         Question { weights, recorded, found }
     }
 
-    /// Makes these pairs of labels weigh one more, each once; says whether all could be.
+    /// Makes the labels of these pairs of vertices weigh one more, each once; says whether all could be.
     fn raise(&mut self, pairs: impl Iterator<Item = (usize, usize)>) -> bool {
         let mut done = vec![vec![false; self.weights.len()]; self.weights.len()];
         let mut whole = true;
-        for (row, column) in pairs {
+        for (row, column) in pairs.map(|(u, v)| (self.recorded[u], self.found[v])) {
             let weight = &mut self.weights[row][column];
             if std::mem::replace(&mut done[row][column], true) || *weight == FORBIDDEN {
                 continue;

@@ -220,7 +220,7 @@ impl Reader<'_> {
 
 /// The weight of recorded u with found v; none if forbidden.
 fn vertex_pair(plant: &Plant, u: usize, v: usize) -> Option<i32> {
-    allowed(plant.table.vertex.rows[plant.recorded.label(u)][plant.found.label(v)])
+    allowed(plant.pair_weight(u, v))
 }
 
 /// A weight or a value unless it is the forbidden number.

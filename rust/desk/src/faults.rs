@@ -11,6 +11,8 @@ pub fn fault(plant: &Plant, item: u32) -> Option<Fault> {
         2 => weight_range(&plant.table.vertex).or_else(|| weight_range(&plant.table.edge)),
         3..=7 => tree_fault(plant, &plant.recorded, item - 3),
         8..=12 => tree_fault(plant, &plant.found, item - 8),
+        25 => twice(&plant.recorded),
+        26 => twice(&plant.found),
         _ => None,
     }
 }
@@ -123,4 +125,12 @@ fn degrees(tree: &Tree) -> Option<Fault> {
         }
     }
     None
+}
+
+/// The first known serial that stands at an earlier vertex already.
+fn twice(tree: &Tree) -> Option<Fault> {
+    let serials = tree.serials.as_ref()?;
+    let earlier = |at: usize| (0..at).find(|&other| tree.serial(at).is_some() && tree.serial(other) == tree.serial(at));
+    let (at, other) = (0..tree.size()).find_map(|at| Some((at, earlier(at)?)))?;
+    found(&serials[at].place, format!("serial {} stands at vertex {} already", serials[at].number, tree.called(other)))
 }

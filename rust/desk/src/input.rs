@@ -1,6 +1,6 @@
 //! A plant from the files that a person names: text, or the bytes of the paper, in one file or in a table's and one or
 //! two of trees.
-use crate::bytes::{self, Bytes, Part};
+use crate::bytes::{self, Bytes, Misshapen, Part};
 use crate::certificate;
 use crate::faults;
 use crate::files::{self, Trouble, INPUT_MOST};
@@ -13,7 +13,7 @@ use std::rc::Rc;
 pub struct Input {
     pub bytes: Bytes,
     /// The plant that the bytes are of, or the first byte that is of another shape.
-    plant: Result<Plant, Fault>,
+    plant: Result<Plant, Misshapen>,
 }
 
 /// A plant that is refused: why, and where, if that is known.
@@ -86,20 +86,22 @@ impl Input {
 
     /// The plant, or the fault of bytes that are none.
     pub fn plant(&self) -> Result<&Plant, &Fault> {
-        self.plant.as_ref()
+        self.plant.as_ref().map_err(|shape| &shape.fault)
     }
 
     /// A refusal of this plant with its place.
     pub fn refused(&self, refusal: Refusal) -> Refused {
         let fault = match &self.plant {
             Ok(plant) => faults::fault(plant, refusal.number()),
-            Err(fault) => Some(fault.clone()),
+            Err(shape) if shape.item == refusal.number() => Some(shape.fault.clone()),
+            // an earlier part is refused for another reason
+            Err(shape) => shape.before.as_ref().and_then(|before| faults::fault(before, refusal.number())),
         };
         Refused { refusal, fault }
     }
 
-    /// How much the library wants to be lent, if it accepts the table and both trees: this tests the items 1 to 12 and
-    /// nothing else.
+    /// How much the library wants to be lent, if it accepts the table and both trees: this tests the items 1 to 12, 25
+    /// and 26, and nothing else.
     pub fn sizes(&self) -> Result<Sizes, Refused> {
         pensummer::sizes(self.bytes.inputs()).map_err(|refusal| self.refused(refusal))
     }

@@ -19,6 +19,7 @@ pub mod print;
 pub mod report;
 pub mod run;
 pub mod say;
+mod serial_text;
 mod sizes;
 mod table_text;
 pub mod text;

@@ -1,11 +1,14 @@
 //! A mapping as a table: the recorded tree from vertex 0 down, children indented below their parent, with partners and
-//! what each pair weighs.
+//! what each pair weighs; serials in columns of their own where one is known.
 use crate::answer::{Answer, Certainty};
 use crate::changes::{name_elsewhere, new_vertices, rows, Row};
-use crate::plant::Weights;
+use crate::plant::{Tree, Weights};
 use crate::width::aligned;
 
-const HEAD: [&str; 6] = ["recorded", "label", "edge", "partner", "label", "weight"];
+const HEAD: [&str; 8] = ["recorded", "label", "serial", "edge", "partner", "label", "serial", "weight"];
+
+/// Those that stand where no serial is known.
+const WITHOUT_SERIALS: [usize; 6] = [0, 1, 3, 4, 5, 7];
 
 pub fn listing(answer: &Answer) -> String {
     let rows = rows(answer);
@@ -17,7 +20,14 @@ pub fn listing(answer: &Answer) -> String {
         format!("weight {}: vertex pairs {pairs}, weighing {vertices}; edge pairs {mapped}, weighing {edges}\n\n", answer.weight);
     let mut table = vec![HEAD.map(str::to_owned)];
     table.extend(rows.iter().map(|row| cells(answer, row)));
-    text += &aligned(&table, [false; HEAD.len()]);
+    let known = [&answer.plant.recorded, &answer.plant.found].iter().any(|tree| (0..tree.size()).any(|u| tree.serial(u).is_some()));
+    text += &match known {
+        true => aligned(&table, [false; HEAD.len()]),
+        false => {
+            let table: Vec<[String; 6]> = table.iter().map(|row| WITHOUT_SERIALS.map(|column| row[column].clone())).collect();
+            aligned(&table, [false; WITHOUT_SERIALS.len()])
+        }
+    };
     text.push('\n');
     text += &without_partner(answer);
     text + &legend(answer, &rows)
@@ -39,19 +49,24 @@ fn unsure(certain: Certainty) -> &'static str {
     }
 }
 
-fn cells(answer: &Answer, row: &Row) -> [String; 6] {
+/// A known serial.
+fn serial(tree: &Tree, u: usize) -> String {
+    tree.serial(u).map_or(String::new(), |serial| serial.to_string())
+}
+
+fn cells(answer: &Answer, row: &Row) -> [String; 8] {
     let (plant, u) = (answer.plant, row.vertex);
     let name = format!("{:indent$}{}", "", plant.recorded.called(u), indent = 2 * row.depth);
-    let own = label(&plant.table.vertex, plant.recorded.label(u));
+    let (own, known) = (label(&plant.table.vertex, plant.recorded.label(u)), serial(&plant.recorded, u));
     let edge = row.parent.map_or(String::new(), |parent| edge_cell(answer, row, parent));
     match row.partner {
-        None => [name, own, edge, format!("-{}", unsure(row.certain)), String::new(), String::new()],
+        None => [name, own, known, edge, format!("-{}", unsure(row.certain)), String::new(), String::new(), String::new()],
         Some(v) => {
             let changed = if answer.label_changed(u, v) { " !" } else { "" };
             let elsewhere = if name_elsewhere(answer, u).is_some() { " *" } else { "" };
             let partner = format!("{}{}{elsewhere}", plant.found.called(v), unsure(row.certain));
             let other = format!("{}{changed}", label(&plant.table.vertex, plant.found.label(v)));
-            [name, own, edge, partner, other, weight_cell(answer, row, v)]
+            [name, own, known, edge, partner, other, serial(&plant.found, v), weight_cell(answer, row, v)]
         }
     }
 }
@@ -84,6 +99,7 @@ fn without_partner(answer: &Answer) -> String {
     let mut text = "found without a partner\n".to_owned();
     for v in new_vertices(answer) {
         text += &format!("{}{}  label {}", found.called(v), unsure(answer.found_certain[v]), label(&table.vertex, found.label(v)));
+        text += &found.serial_after(", ", v);
         for (at, w) in answer.found.neighbours(v).enumerate() {
             let edge = label(&table.edge, answer.found.edge(v, w).unwrap_or_default());
             text += &format!(", {}{} (edge label {edge})", if at == 0 { "joined to " } else { "" }, found.called(w));

@@ -4,6 +4,7 @@ use desk::files;
 use desk::input::Refused;
 use desk::report::Report;
 use desk::run::{run, Failure};
+use pensummer::Refusal;
 use std::process::ExitCode;
 
 const DONE: u8 = 0;
@@ -72,7 +73,7 @@ fn print_beside(call: &Call, report: &str) -> Result<(), files::Trouble> {
 /// Says why a call was refused: for programs on standard output, for people on standard error. What answers yes or no,
 /// and what prints as the match program does, has the number on standard output.
 fn said(call: &Call, refused: &Refused) -> Result<(), files::Trouble> {
-    let of_certificate = refused.refusal >= pensummer::Refusal::CERTIFICATE_FORM;
+    let of_certificate = (Refusal::CERTIFICATE_FORM..=Refusal::CERTIFICATE_ANSWER).contains(&refused.refusal);
     if call.json {
         // a certificate's refusal was printed with the certificate
         let report = Report { command: call.command.name, refusal: Some(refused), ..Report::default() };

@@ -1,6 +1,7 @@
 //! A plant as people give it: a weight table and two trees, with names for people and with the place in the input where
 //! each part stands.
 use crate::words::shown;
+use pensummer::FORBIDDEN;
 use std::fmt;
 use std::rc::Rc;
 
@@ -90,10 +91,20 @@ pub struct Edge {
     pub place: Place,
 }
 
+/// The serial of a vertex; 0 is unknown.
+#[derive(Clone, Debug, PartialEq, Eq)]
+pub struct Serial {
+    pub number: u32,
+    /// Where it stands; of one that a text leaves out, where its vertex does.
+    pub place: Place,
+}
+
 #[derive(Clone, Debug, PartialEq, Eq)]
 pub struct Tree {
     pub vertices: Vec<Vertex>,
     pub edges: Vec<Edge>,
+    /// One for each vertex where the vertex records have serials; none where they have not.
+    pub serials: Option<Vec<Serial>>,
     /// Where the tree begins.
     pub place: Place,
 }
@@ -105,6 +116,17 @@ impl Tree {
 
     pub fn label(&self, vertex: usize) -> usize {
         self.vertices[vertex].label.into()
+    }
+
+    /// The serial of a vertex, if it is known.
+    pub fn serial(&self, vertex: usize) -> Option<u32> {
+        let number = self.serials.as_ref()?[vertex].number;
+        Some(number).filter(|&number| number != 0)
+    }
+
+    /// A known serial for people, after what stands before it.
+    pub fn serial_after(&self, before: &str, vertex: usize) -> String {
+        self.serial(vertex).map_or(String::new(), |serial| format!("{before}serial {serial}"))
     }
 
     /// A vertex for people: its number, and its name if it has one.
@@ -121,4 +143,22 @@ pub struct Plant {
     pub table: Table,
     pub recorded: Tree,
     pub found: Tree,
+}
+
+impl Plant {
+    /// What recorded u with found v weighs, `pensummer::FORBIDDEN` if the pair is forbidden: the only way to a vertex
+    /// pair's weight.
+    pub fn pair_weight(&self, u: usize, v: usize) -> i32 {
+        match self.serials_apart(u, v) {
+            Some(_) => FORBIDDEN,
+            None => self.table.vertex.rows[self.recorded.label(u)][self.found.label(v)],
+        }
+    }
+
+    /// The serials of recorded u and found v if both are known and they differ: a forbidden pair, whatever the table
+    /// says.
+    pub fn serials_apart(&self, u: usize, v: usize) -> Option<[u32; 2]> {
+        let serials = [self.recorded.serial(u)?, self.found.serial(v)?];
+        Some(serials).filter(|[a, b]| a != b)
+    }
 }

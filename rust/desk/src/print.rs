@@ -5,7 +5,8 @@ use crate::words::is_bare;
 use pensummer::FORBIDDEN;
 use std::fmt::Write;
 
-const EDGES_IN_A_LINE: usize = 12;
+/// Edges, or serials.
+const IN_A_LINE: usize = 12;
 
 pub fn print(plant: &Plant) -> String {
     let table = &plant.table;
@@ -53,10 +54,13 @@ fn print_tree(text: &mut String, word: &str, tree: &Tree) {
         let _ = write!(text, "{}", vertex.label);
     }
     text.push('\n');
-    for line in tree.edges.chunks(EDGES_IN_A_LINE) {
+    for line in tree.serials.iter().flat_map(|serials| serials.chunks(IN_A_LINE)) {
+        let serials: Vec<String> = line.iter().map(|serial| serial.number.to_string()).collect();
+        let _ = writeln!(text, "serials {}", serials.join(" "));
+    }
+    for line in tree.edges.chunks(IN_A_LINE) {
         let edges: Vec<String> = line.iter().map(|edge| edge_text(edge.ends[0], edge.ends[1], edge.label)).collect();
-        text.push_str(&edges.join(" "));
-        text.push('\n');
+        let _ = writeln!(text, "{}", edges.join(" "));
     }
 }
 

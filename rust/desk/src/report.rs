@@ -114,6 +114,7 @@ fn vertex(tree: &Tree, labels: &Weights, u: usize) -> Vec<(&'static str, Json)> 
         ("name", tree.vertices[u].name.as_deref().into()),
         ("label", label.into()),
         ("label_name", labels.names.get(label).map(String::as_str).into()),
+        ("serial", tree.serial(u).map(i64::from).into()),
     ]
 }
 

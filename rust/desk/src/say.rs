@@ -3,12 +3,13 @@ use crate::answer::{Answer, Certainty};
 use crate::changes::{counts, name_elsewhere, new_vertices, rows, Counts, Row, State};
 use crate::plant::{Tree, Weights};
 
-/// A vertex for people: number, name of its own if it has one, and label.
+/// A vertex for people: number, name of its own if it has one, label, and serial if that is known.
 pub fn vertex(tree: &Tree, labels: &Weights, u: usize) -> String {
     let label = labels.called(tree.label(u));
-    match &tree.vertices[u].name {
-        Some(_) => format!("{} ({label})", tree.called(u)),
-        None => format!("{u} {label}"),
+    match (&tree.vertices[u].name, tree.serial(u)) {
+        (Some(_), _) => format!("{} ({label}{})", tree.called(u), tree.serial_after(", ", u)),
+        (None, Some(_)) => format!("{u} {label} ({})", tree.serial_after("", u)),
+        (None, None) => format!("{u} {label}"),
     }
 }
 

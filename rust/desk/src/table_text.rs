@@ -255,6 +255,7 @@ fn unknown(line: &Line, word: Word) -> Result<(), Fault> {
     match word.text {
         "labels" => line.fault(word.column, "`labels` stands once, and first"),
         "found" => line.fault(word.column, "`found` stands once, after the recorded tree"),
+        "serials" => line.fault(word.column, "`serials` stands in a tree, after its first line"),
         other => {
             line.fault(word.column, format!("{} is none of `vertex`, `edge`, `recorded` and their kin; see docs/FORMAT.md", quote(other)))
         }

@@ -1,16 +1,21 @@
-//! Reading a tree's part of a plant's text: vertices with labels and perhaps names, and edges.
+//! Reading a tree's part of a plant's text: vertices with labels and perhaps names and serials, and edges.
 use crate::plant::{Edge, Fault, Place, Table, Tree, Vertex};
+use crate::serial_text::SerialsText;
 use crate::table_text::label_of;
-use crate::words::{is_bare, is_digits, quote, Line, Part, Word};
+use crate::words::{closed_up, is_bare, is_digits, outside_quotes, quote, Line, Part, Word};
 
 /// A count of vertices is a byte.
 const VERTICES_WRITTEN: usize = 255;
+
+/// The word that begins a line of serials.
+const SERIALS: &str = "serials";
 
 /// A tree while it is read; the ends of its edges may be names of vertices that follow.
 pub struct TreeText {
     place: Place,
     vertices: Vec<Vertex>,
     edges: Vec<EdgeText>,
+    serials: SerialsText,
 }
 
 struct EdgeText {
@@ -23,7 +28,8 @@ struct EdgeText {
 impl TreeText {
     /// The line that begins the tree: its word, and vertices.
     pub fn begin(line: &Line, words: &[Word], table: &Table) -> Result<TreeText, Fault> {
-        let mut tree = TreeText { place: line.place(words[0].column), vertices: Vec::new(), edges: Vec::new() };
+        let (vertices, edges, serials) = (Vec::new(), Vec::new(), SerialsText::default());
+        let mut tree = TreeText { place: line.place(words[0].column), vertices, edges, serials };
         closed_up(line, &words[1..])?;
         for &word in &words[1..] {
             tree.read_vertex(line, word, table)?;
@@ -31,8 +37,11 @@ impl TreeText {
         Ok(tree)
     }
 
-    /// A further line of the tree: edges, and vertices with names.
+    /// A further line of the tree: edges and vertices with names, or serials.
     pub fn read(&mut self, line: &Line, words: &[Word], table: &Table) -> Result<(), Fault> {
+        if words[0].text == SERIALS {
+            return self.serials.read(line, words);
+        }
         closed_up(line, words)?;
         for &word in words {
             if outside_quotes(word.text, '=').is_some() {
@@ -104,14 +113,15 @@ impl TreeText {
         Ok(())
     }
 
-    /// The whole tree, its edges' ends found by their names.
+    /// The whole tree, the vertices that edges and serials name found by their names.
     pub fn finish(self) -> Result<Tree, Fault> {
         let mut edges = Vec::new();
         for edge in &self.edges {
             let ends = [self.end(&edge.ends[0])?, self.end(&edge.ends[1])?];
             edges.push(Edge { ends, label: edge.label, text: edge.text.clone(), place: edge.place.clone() });
         }
-        Ok(Tree { vertices: self.vertices, edges, place: self.place })
+        let serials = self.serials.finish(&self.vertices, |end| self.end(end))?;
+        Ok(Tree { vertices: self.vertices, edges, serials, place: self.place })
     }
 
     fn end(&self, (part, place): &(Part, Place)) -> Result<u8, Fault> {
@@ -135,30 +145,4 @@ impl TreeText {
             }
         }
     }
-}
-
-/// No word of a tree begins or ends with what joins its parts: there was a blank beside it.
-fn closed_up(line: &Line, words: &[Word]) -> Result<(), Fault> {
-    const JOINS: [char; 3] = ['-', '=', ':'];
-    match words.iter().find(|word| word.text.starts_with(JOINS) || word.text.ends_with(JOINS)) {
-        Some(word) => {
-            line.fault(word.column, format!("something is missing at {}; no blanks stand around `-`, `=` and `:`", quote(word.text)))
-        }
-        None => Ok(()),
-    }
-}
-
-/// Where a character first stands outside quotes.
-fn outside_quotes(word: &str, wanted: char) -> Option<usize> {
-    let (mut quoted, mut escaped) = (false, false);
-    for (at, c) in word.char_indices() {
-        if c == wanted && !quoted {
-            return Some(at);
-        }
-        if c == '"' && !escaped {
-            quoted = !quoted;
-        }
-        escaped = quoted && c == '\\' && !escaped;
-    }
-    None
 }

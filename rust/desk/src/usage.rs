@@ -23,9 +23,9 @@ pub const COMMANDS: [Command; 9] = [
                `kept` if its partner has its label and the edge to the vertex above it has\n\
                the same label; `changed` if one of these differs; `gone` if it is recorded\n\
                and has no partner; `new` if it is found and has none. What another mapping\n\
-               as heavy says otherwise is NOT CERTAIN: decide it by eye. Labels and edges\n\
-               decide; names of vertices weigh nothing. Where a name stands at another\n\
-               vertex now, that is said.",
+               as heavy says otherwise is NOT CERTAIN: decide it by eye. Labels, edges and\n\
+               serials decide; names of vertices weigh nothing. Where a name stands at\n\
+               another vertex now, that is said.",
     },
     Command {
         name: "listing",
@@ -35,8 +35,8 @@ pub const COMMANDS: [Command; 9] = [
         about: "the same as a table: the recorded tree, partners and weights",
         help: "The recorded tree from vertex 0 down, children indented below their parent:\n\
                number and name, label, label of the edge to the parent, partner, its label,\n\
-               and what the pair and the edge weigh. `!` marks what changed, `?` what is\n\
-               not certain.",
+               and what the pair and the edge weigh; serials where one is known. `!` marks\n\
+               what changed, `?` what is not certain.",
     },
     Command {
         name: "picture",

@@ -201,3 +201,29 @@ impl Cursor<'_> {
         name
     }
 }
+
+/// No word of a tree begins or ends with what joins its parts: there was a blank beside it.
+pub fn closed_up(line: &Line, words: &[Word]) -> Result<(), Fault> {
+    const JOINS: [char; 3] = ['-', '=', ':'];
+    match words.iter().find(|word| word.text.starts_with(JOINS) || word.text.ends_with(JOINS)) {
+        Some(word) => {
+            line.fault(word.column, format!("something is missing at {}; no blanks stand around `-`, `=` and `:`", quote(word.text)))
+        }
+        None => Ok(()),
+    }
+}
+
+/// Where a character first stands outside quotes.
+pub fn outside_quotes(word: &str, wanted: char) -> Option<usize> {
+    let (mut quoted, mut escaped) = (false, false);
+    for (at, c) in word.char_indices() {
+        if c == wanted && !quoted {
+            return Some(at);
+        }
+        if c == '"' && !escaped {
+            quoted = !quoted;
+        }
+        escaped = quoted && c == '\\' && !escaped;
+    }
+    None
+}

@@ -644,8 +644,8 @@ fn json_of_match_and_listing_is_one_line_of_the_documented_shape() {
 fn json_of_small_plant_3_whole() {
     let vertex = |v: i64, label: i64, partner: i64, weight: i64, edge: &str| {
         format!(
-            "{{\"vertex\":{v},\"name\":null,\"label\":{label},\"label_name\":null,\"state\":\"kept\",\"partner\":{partner},\
-             \"certain\":true,\"otherwise\":null,\"weight\":{weight},\"edge\":{edge},\"same_name\":null}}"
+            "{{\"vertex\":{v},\"name\":null,\"label\":{label},\"label_name\":null,\"serial\":null,\"state\":\"kept\",\
+             \"partner\":{partner},\"certain\":true,\"otherwise\":null,\"weight\":{weight},\"edge\":{edge},\"same_name\":null}}"
         )
     };
     let edge = "{\"to\":0,\"label\":0,\"partner_label\":0,\"weight\":1,\"certain\":true}";

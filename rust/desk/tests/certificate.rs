@@ -8,10 +8,10 @@ mod plants;
 use damage::{put, Whole, DAMAGES};
 use desk::certificate::{broken, read, show, Broken, Certificate, Record};
 use desk::plant::Plant;
-use plants::{named_plant, path, random_plant, small_plant_1, small_plant_8, table_p, tree, Bytes, Random, X};
+use plants::{named_plant, path, random_plant, small_plant_1, small_plant_8, table_p, tree, with_serials, Bytes, Random, X};
 
 /// The items of the rules, and words that only the reason of that rule has; the first that fits is meant.
-const RULES: [(u32, &str); 17] = [
+const RULES: [(u32, &str); 18] = [
     (20, "where the mark"),
     (20, "the certificate says that the recorded tree"),
     (20, "the certificate says that the found tree"),
@@ -20,6 +20,7 @@ const RULES: [(u32, &str); 17] = [
     (21, "have the same partner"),
     (21, "the pair of their edges"),
     (21, "; the pair of "),
+    (21, "; their serials, "),
     (21, "are joined, but their partners"),
     (21, "are not joined, but their partners"),
     (21, "are not connected"),
@@ -310,6 +311,34 @@ fn records() {
     number([1, 2, 3], 2, X, &format!("{allowed} the dual -2147483648 for found neighbour 1 heater 2; duals are 0 or more"));
     number([1, 2, 3], 0, X, &format!("{allowed} the value forbidden; the pair weighs 1 and the duals add up to 3, together 4"));
     number([1, 2, 3], 0, 5, &format!("{allowed} the value 5; the pair weighs 1 and the duals add up to 3, together 4"));
+}
+
+/// Two vertices with different serials are a forbidden pair in the mapping and in the records, whatever the table says.
+#[test]
+fn serials() {
+    let mut plant = named_plant();
+    plant.recorded = with_serials(plant.recorded, &[0, 7, 8]);
+    plant.found = with_serials(plant.found, &[1, 9, 8, 0]);
+    let (bytes, certificate) = written(&plant, &Bytes::of(&plant));
+    assert_eq!(record(&certificate, [1, 1, 1]).value, X);
+    assert_eq!((record(&certificate, [0, 1, 1]).value, record(&certificate, [2, 2, 2]).value), (1, 3));
+    let partner = |u: usize, v: u8| with(&(0..3).fold(bytes.clone(), |bytes, u| with(&bytes, 10 + 3 * u, &[255])), 10 + 3 * u, &[v]);
+    let apart = "recorded 1 heater has the partner found 1 heater 2; their serials, 7 and 9, differ, so that the pair is forbidden";
+    refused(&plant, &partner(1, 1), 21, 13, apart);
+    // both the table and the serials forbid it: the serials are said
+    plant.recorded = with_serials(plant.recorded, &[7, 0, 0]);
+    let both = "recorded 0 pump has the partner found 2 filter 2; their serials, 7 and 8, differ, so that the pair is forbidden";
+    refused(&plant, &partner(0, 2), 21, 10, both);
+    plant.recorded = with_serials(plant.recorded, &[0, 7, 8]);
+    let at = record(&certificate, [1, 1, 1]).offset + 2;
+    let head = "the record of recorded 1 heater with found 1 heater 2 has";
+    let value = "the value 4; the pair is forbidden by its serials, 7 and 9, so its value is the forbidden number";
+    refused(&plant, &with(&bytes, at, &4i32.to_le_bytes()), 23, at, &format!("{head} {value}"));
+    let dual = "the dual 1 for recorded child 2 filter; the pair is forbidden by its serials, 7 and 9, so its duals are 0";
+    refused(&plant, &with(&bytes, at + 4, &[1, 0, 0, 0]), 23, at + 4, &format!("{head} {dual}"));
+    let shown = show(&plant, &certificate);
+    assert!(shown.contains("\n2 filter  filtering, serial 8  "), "{shown}");
+    assert!(shown.lines().any(|line| line.contains(" 1 heater    1 heater 2  1  forbidden  forbidden  ")), "{shown}");
 }
 
 /// A child pair whose duals do not cover its weight, in a sum that is right; the left-out pairs beside it need no

@@ -3,7 +3,7 @@
 use desk::answer::{Answer, Certainty};
 use desk::graph::Graph;
 use desk::picture::{picture, widths};
-use desk::plant::{At, Edge, Place, Plant, Table, Tree, Vertex, Weights};
+use desk::plant::{At, Edge, Place, Plant, Serial, Table, Tree, Vertex, Weights};
 use std::collections::{BTreeMap, BTreeSet};
 
 // Plants and answers
@@ -23,6 +23,8 @@ struct Shape {
     labels: Vec<u8>,
     edges: Vec<(u8, u8, u8)>,
     names: Vec<Option<String>>,
+    /// Of every vertex, 0 for unknown, or none at all.
+    serials: Vec<u32>,
 }
 
 impl Shape {
@@ -30,12 +32,13 @@ impl Shape {
         let name = |u: usize| self.names.get(u).cloned().flatten();
         let vertices = self.labels.iter().enumerate().map(|(u, &label)| Vertex { label, name: name(u), place: place() }).collect();
         let edges = self.edges.iter().map(|&(a, b, label)| Edge { ends: [a, b], label, text: String::new(), place: place() }).collect();
-        Tree { vertices, edges, place: place() }
+        let serials: Vec<Serial> = self.serials.iter().map(|&number| Serial { number, place: place() }).collect();
+        Tree { vertices, edges, serials: Some(serials).filter(|serials| !serials.is_empty()), place: place() }
     }
 
     fn parents(parents: &[usize]) -> Shape {
         let edges = parents.iter().enumerate().map(|(u, &parent)| (parent as u8, u as u8 + 1, 0)).collect();
-        Shape { labels: vec![0; parents.len() + 1], edges, names: Vec::new() }
+        Shape { labels: vec![0; parents.len() + 1], edges, ..Shape::default() }
     }
 }
 
@@ -69,7 +72,7 @@ fn shape(labels: &str, edges: &str) -> Shape {
         let (a, b) = ends.split_once('-').expect("an edge");
         (number(a), number(b), number(label))
     };
-    Shape { labels: labels.split(' ').map(number).collect(), edges: edges.split(' ').map(edge).collect(), names: Vec::new() }
+    Shape { labels: labels.split(' ').map(number).collect(), edges: edges.split(' ').map(edge).collect(), ..Shape::default() }
 }
 
 /// Partners as numbers, `-` for none.
@@ -197,7 +200,7 @@ fn found_with(
     let at = |u: u8| chosen.iter().position(|&c| c == usize::from(u)).map(|at| at as u8);
     let mut edges: Vec<(u8, u8, u8)> = recorded.edges.iter().filter_map(|&(a, b, l)| Some((at(a)?, at(b)?, l))).collect();
     edges.iter_mut().for_each(|e| e.2 = if random.below(100) < odds { 1 - e.2.min(1) } else { e.2 });
-    let mut kept = Shape { labels: chosen.iter().map(|&u| recorded.labels[u]).collect(), edges, names: vec![] };
+    let mut kept = Shape { labels: chosen.iter().map(|&u| recorded.labels[u]).collect(), edges, ..Shape::default() };
     kept.labels.iter_mut().for_each(|l| *l = if random.below(100) < odds { 0 } else { *l });
     if kept.labels.is_empty() {
         kept.labels.push(0);
@@ -591,6 +594,26 @@ fn give_names(shape: &mut Shape, kind: usize, random: &mut Random) {
     shape.names = (0..shape.labels.len()).map(|_| named(random)).collect();
 }
 
+/// Serials of all, of some or of no vertex, of all lengths, or records without.
+fn give_serials(shape: &mut Shape, random: &mut Random) {
+    let kind = random.below(4);
+    let mut number = |u: usize| [0, u32::MAX - u as u32, 1 + u as u32][if kind < 2 { kind } else { random.below(3) }];
+    shape.serials = if kind == 3 { Vec::new() } else { (0..shape.labels.len()).map(&mut number).collect() };
+}
+
+/// A known serial stands beside its vertex and in its title, and no other does.
+fn shows_serials(seen: &Seen, recorded: &Shape, found: &Shape) {
+    for circle in &seen.circles {
+        let serial = [recorded, found][circle.side].serials.get(circle.vertex).copied().unwrap_or(0);
+        let title = circle.title.split("; with ").next().unwrap_or_default();
+        let said = format!(", serial {serial}");
+        let ends = circle.text.split(" and ").next().unwrap_or_default().trim_end_matches(" ?").ends_with(&said);
+        assert_eq!(ends, serial != 0, "{circle:?}");
+        assert_eq!(title.contains(&format!("{said}, ")), serial != 0, "{circle:?}");
+        assert_eq!(title.contains(", serial ") || circle.text.contains(", serial "), serial != 0, "{circle:?}");
+    }
+}
+
 #[test]
 fn random_trees_of_all_sizes() {
     let mut random = Random(0x9e3779b97f4a7c15);
@@ -609,12 +632,14 @@ fn random_trees_of_all_sizes() {
         let (mut found, partner) = found_with(&recorded, &chosen, size, window, odds, &mut random);
         give_names(&mut recorded, kind, &mut random);
         give_names(&mut found, kind, &mut random);
+        give_serials(&mut recorded, &mut random);
+        give_serials(&mut found, &mut random);
         let plant = plant(weights(6, if kind > 0 { &DEVICES } else { &[] }), weights(edge_labels, &[]), &recorded, &found);
         let mut answer = answer(&plant, partner);
         if random.below(2) == 0 {
             answer.certain[0] = Certainty::Unknown;
         }
-        checked(&answer);
+        shows_serials(&checked(&answer), &recorded, &found);
         if round < 40 {
             keep(&format!("random-{round}.svg"), &answer);
         }

@@ -7,8 +7,8 @@ use support::plants::{row, tree, ONE};
 use support::report::report;
 use support::{said, Folder};
 
-/// The sentence of each item from 1.
-const SENTENCES: [&str; 12] = [
+/// The sentence of each item from 1, and of 25 and 26.
+const SENTENCES: [&str; 14] = [
     "the table's length, a mark, or its number of labels is wrong",
     "a weight of the table is out of range and not the forbidden number",
     "the recorded tree's length, a mark, or its number of vertices is wrong",
@@ -21,7 +21,13 @@ const SENTENCES: [&str; 12] = [
     "an edge of the found tree names a vertex that is not there",
     "an edge of the found tree closes a loop",
     "a vertex of the found tree has more than 8 edges",
+    "a known serial stands twice in the recorded tree",
+    "a known serial stands twice in the found tree",
 ];
+
+fn sentence(item: usize) -> &'static str {
+    SENTENCES[if item < 25 { item - 1 } else { item - 13 }]
+}
 
 /// What is said of a weight beyond the limits, before the weight.
 const RANGE: &str = "a weight is -16000000 to 16000000 or `forbidden`, not";
@@ -29,7 +35,7 @@ const RANGE: &str = "a weight is -16000000 to 16000000 or `forbidden`, not";
 /// A text that the library refuses by this item, and where and why, as `LINE:COLUMN: REASON`.
 fn refused(text: &str, item: usize, place: &str) {
     let folder = Folder::with(&[("p", text), ("c", "")]);
-    let sentence = SENTENCES[item - 1];
+    let sentence = sentence(item);
     let people = format!("pensummer: refused {item}: {sentence}\np:{place}\n");
     for call in [&["match"][..], &["listing"], &["picture"], &["picture", "-o", "w"], &["write", "-o", "w"], &["sizes"]] {
         assert_eq!(folder.run(&[call, &["p"]].concat()), said("", people.clone(), 1), "{call:?}");
@@ -51,7 +57,7 @@ fn json(folder: &Folder, item: usize, place: &str) {
         assert_eq!((err.as_str(), status), ("", 1), "{call:?}");
         let report = report(&out);
         let refusal = report.at("refusal");
-        assert_eq!((refusal.at("item"), refusal.at("sentence")), (&Value::Number(item as i64), &SENTENCES[item - 1].into()), "{call:?}");
+        assert_eq!((refusal.at("item"), refusal.at("sentence")), (&Value::Number(item as i64), &sentence(item).into()), "{call:?}");
         let at = refusal.at("place");
         assert_eq!((at.at("file"), at.at("line"), at.at("column")), (&"p".into(), &line, &column), "{call:?}");
         assert_eq!(*refusal.at("reason"), place.splitn(3, ": ").last().unwrap_or_default().into(), "{call:?}");
@@ -169,6 +175,67 @@ fn items_7_and_12_a_vertex_with_a_name_and_nine_edges() {
     let vertices = "recorded M=0 0 0 0 0 0 0 0 0 0\n";
     let reason = "the edge 9-M is one more than the 8 that vertex 0 M may have";
     refused_tree(&format!("{vertices}M-1 M-2 M-3 M-4 M-5 M-6 M-7 M-8 9-M\nfound 0\n"), 7, &format!("5:33: {reason}"));
+}
+
+#[test]
+fn items_25_and_26_a_known_serial_that_stands_twice() {
+    let two = "0 0 0\n0-1 1-2\n";
+    refused_tree(&format!("recorded {two}serials 7 0 7\nfound 0\n"), 25, "6:13: serial 7 stands at vertex 0 already");
+    refused_tree(&format!("recorded 0\nserials 7\nfound {two}serials 0 7\nserials   7\n"), 26, "9:11: serial 7 stands at vertex 1 already");
+    // unknown ones before do not count
+    let four = "recorded 0 0 0 0\n0-1 1-2 2-3\nserials 0 0 7 7\nfound 0\n";
+    refused_tree(four, 25, "6:15: serial 7 stands at vertex 2 already");
+    let most = "6:20: serial 4294967295 stands at vertex 0 already";
+    refused_tree(&format!("recorded {two}serials 4294967295 4294967295 0\nfound 0\n"), 25, most);
+}
+
+/// The place is where the serial stands that is the second by the vertices' numbers, not by the lines.
+#[test]
+fn items_25_and_26_a_known_serial_that_stands_twice_by_names() {
+    let vertices = "A=0 \"B 2\"=0 C=0\nA-\"B 2\" C-A\n";
+    refused_tree(&format!("recorded {vertices}serials C=9 \"B 2\"=9\nfound 0\n"), 25, "6:11: serial 9 stands at vertex 1 B 2 already");
+    refused_tree(&format!("recorded 0\nfound {vertices}serials 1=5\nserials  A=5\n"), 26, "7:11: serial 5 stands at vertex 0 A already");
+}
+
+#[test]
+fn unknown_serials_may_stand_any_number_of_times() {
+    let two = "0 0 0\n0-1 1-2\n";
+    let folder = Folder::with(&[("p", &format!("{ONE}recorded {two}serials 0 0 0\nfound {two}serials 0 3 0\n"))]);
+    let (out, err, status) = folder.run(&["match", "--plain", "p"]);
+    assert_eq!((err.as_str(), status), ("", 0));
+    assert!(out.starts_with("weight 5\n"), "{out}");
+}
+
+/// 25 after 7 and before 8, 26 after 12.
+#[test]
+fn serials_that_stand_twice_are_said_in_their_order() {
+    let twice = "serials 0=5 1=5\n";
+    let (recorded, found) = (nine("recorded"), nine("found"));
+    let reason = "the edge 0-9 is one more than the 8 that vertex 0 may have";
+    refused_tree(&format!("{recorded}{twice}found 0\n"), 7, &format!("6:1: {reason}"));
+    let good = recorded.replace("0-9", "1-9");
+    refused_tree(&format!("{good}{twice}found\n"), 25, "7:15: serial 5 stands at vertex 0 already");
+    refused_tree(&format!("{good}{twice}{}{twice}", found.replace("0-9", "1-9")), 25, "7:15: serial 5 stands at vertex 0 already");
+    refused_tree(&format!("recorded 0\n{found}{twice}"), 12, &format!("7:1: {reason}"));
+    refused_tree(&format!("recorded 0\n{}{twice}", found.replace("0-9", "1-9")), 26, "8:15: serial 5 stands at vertex 0 already");
+}
+
+#[test]
+fn a_serial_in_bytes_is_placed_at_its_first_byte() {
+    let folder = Folder::with(&[("p", &format!("{ONE}recorded 0 0\nserials 1 2\n0-1\nfound 0 0\nserials 258 258\n0-1\n"))]);
+    assert_eq!(folder.run(&["plant", "p", "-o", "b"]), said("", "", 0));
+    // a table of 16 bytes, a tree of 22, a head of 3, a vertex of 7, mark and label of the next
+    let message = format!("pensummer: refused 26: {}\nb: byte 51: serial 258 stands at vertex 0 already\n", sentence(26));
+    assert_eq!(folder.run(&["match", "b"]), said("", &message, 1));
+    assert_eq!(folder.run(&["plant", "p", "--split", "x"]), said("", "", 0));
+    let message = message.replace("b: byte 51", "x.found: byte 13");
+    assert_eq!(folder.run(&["match", "x.table", "x.recorded", "x.found"]), said("", &message, 1));
+    let (out, _, _) = folder.run(&["sizes", "--json", "b"]);
+    let refusal = report(&out).at("refusal").clone();
+    assert_eq!((refusal.at("item"), refusal.at("place").at("byte")), (&Value::Number(26), &Value::Number(51)));
+    // it has a text all the same
+    let (text, _, status) = folder.run(&["text", "b"]);
+    assert_eq!((text.as_str(), status), (format!("{ONE}recorded 0 0\nserials 1 2\n0-1\nfound 0 0\nserials 258 258\n0-1\n").as_str(), 0));
 }
 
 #[test]

@@ -40,7 +40,7 @@ pub const FORBIDDEN: i32 = i32::MIN;
 pub const NONE: u8 = 255;
 /// A table is never longer, in bytes.
 pub const TABLE_MOST: usize = 4 + rows(VERTEX_LABELS_MOST) + rows(EDGE_LABELS_MOST);
-/// A tree is never longer, in bytes: with serials; without them it has 8n - 2.
+/// A tree is never longer, in bytes: 12n - 2 with serials, 8n - 2 without.
 pub const TREE_MOST: usize = 12 * VERTICES_MOST - 2;
 /// There are never more subproblems, and so never more work numbers to lend.
 pub const WORK_MOST: usize = VERTICES_MOST * (3 * VERTICES_MOST - 2);

@@ -242,8 +242,8 @@ fn lent(name: &str) -> usize {
 #[test]
 fn format_bytes() {
     let parts = listed();
-    assert_eq!(parts.len(), 4, "lists of bytes");
-    let (table, recorded, found, certificate) = (&parts[0], &parts[1], &parts[2], &parts[3]);
+    assert_eq!(parts.len(), 5, "lists of bytes");
+    let (table, recorded, found, certificate) = (&parts[0], &parts[1], &parts[2], &parts[4]);
     let input = fs::read(Path::new(env!("CARGO_MANIFEST_DIR")).join("../../crates/matcher/stdin")).unwrap();
     assert_eq!([&table[..], recorded, found].concat(), input);
     let i = pensummer::Inputs { table, recorded, found };
@@ -257,4 +257,28 @@ fn format_bytes() {
     let mut mapping = [0; 2];
     assert_eq!(pensummer::match_trees(i, &mut work, &mut mapping), Ok(9));
     assert_eq!(mapping, [1, 0]);
+}
+
+/// The example with serials in its recorded tree: one that is unknown or equal changes nothing, one that differs makes
+/// its pair a forbidden one, and one that stands twice is refused.
+#[test]
+fn format_serials() {
+    let parts = listed();
+    let (table, recorded, found, with_serials) = (&parts[0], &parts[1], &parts[2], &parts[3]);
+    assert_eq!((recorded.len(), with_serials.len()), (8 * 2 - 2, 12 * 2 - 2));
+    let twice = [&with_serials[..13], &with_serials[6..10], &with_serials[17..]].concat();
+    let matched = |recorded: &[u8], found: &[u8]| {
+        let (mut work, mut mapping) = ([0; 8], [0; 2]);
+        pensummer::match_trees(pensummer::Inputs { table, recorded, found }, &mut work, &mut mapping).map(|weight| (weight, mapping))
+    };
+    assert_eq!(matched(with_serials, found), matched(recorded, found));
+    // found vertex 0 has label 0 here, and the serial 70,411 or the next one
+    assert_eq!(matched(recorded, with_serials), Ok((9, [0, 1])));
+    assert_eq!(matched(with_serials, with_serials), Ok((9, [0, 1])));
+    let mut next = with_serials.clone();
+    next[6] += 1;
+    assert_eq!(matched(with_serials, &next), Ok((3, [pensummer::NONE, 1])));
+    assert_eq!(matched(&twice, found), Err(Refusal::RECORDED_SERIAL));
+    assert_eq!(matched(&twice, &found[1..]), Err(Refusal::RECORDED_SERIAL));
+    assert_eq!(matched(recorded, &twice), Err(Refusal::FOUND_SERIAL));
 }

@@ -1,5 +1,7 @@
 //! Each exported call run once over lent memory that was filled with junk, and everything that it gives back or leaves behind compared with
-//! what the paper says: the first item that applies, or the result; every byte and number lent, the room after it and around it included.
+//! what the papers say: the first item that applies, or the result; every byte and number lent, the room after it and around it included.
+//!
+//! Every call tests the items on inputs first: 1 to 7, 25, 8 to 12 and 26. Further ones are named at each call.
 
 use crate::certificate::{self, Record, HEAD, PARTNER};
 use crate::mapping;
@@ -76,7 +78,7 @@ pub struct Solved {
 }
 
 impl Solved {
-    /// Items 1 to 12, then all values.
+    /// The items on inputs, then all values.
     pub fn read(inputs: &Inputs) -> Result<Solved, u32> {
         let plant = Plant::read(inputs)?;
         let order = Order::of(&plant);
@@ -95,7 +97,7 @@ impl Solved {
     }
 }
 
-/// How much to lend: items 1 to 12. The numbers must be those of a count: the subproblems one by one, a certificate record by record. Gives
+/// How much to lend: the items on inputs. The numbers must be those of a count: the subproblems one by one, a certificate record by record. Gives
 /// back the refusal, or the numbers.
 pub fn sizes(inputs: &Inputs) -> Result<Sizes, u32> {
     let expected = Plant::read(inputs).map(|plant| {
@@ -112,7 +114,7 @@ pub fn sizes(inputs: &Inputs) -> Result<Sizes, u32> {
     result
 }
 
-/// The match in one call: items 1 to 13 and 18. Gives back the refusal, or the mapping.
+/// The match in one call: items 13 and 18. Gives back the refusal, or the mapping.
 pub fn match_trees(inputs: &Inputs, work_room: usize, mapping_room: usize, random: &mut Random) -> Result<Vec<u8>, u32> {
     let expected =
         Solved::read(inputs).and_then(|s| s.enough_work(work_room)).and_then(|s| if mapping_room < s.plant.n() { Err(18) } else { Ok(s) });
@@ -139,7 +141,7 @@ pub fn match_trees(inputs: &Inputs, work_room: usize, mapping_room: usize, rando
     }
 }
 
-/// Starting: items 1 to 13.
+/// Starting: item 13.
 pub fn start(job: &mut Job, inputs: &Inputs, work: &[i32], random: &mut Random) -> Result<(), u32> {
     let expected = Plant::read(inputs).and_then(|p| if work.len() < p.subproblems() { Err(13) } else { Ok(p) });
     let (mut lent, mut work, before) = (inputs.clone(), Lent::holding(work, || random.number()), *job);
@@ -162,7 +164,7 @@ pub fn start(job: &mut Job, inputs: &Inputs, work: &[i32], random: &mut Random) 
     }
 }
 
-/// Items 1 to 16, which advance and finish test.
+/// The items that advance and finish test: those on inputs, and 13 to 16.
 fn job_items(job: &Job, inputs: &Inputs, work: &[i32]) -> Result<(Plant, Order), u32> {
     let plant = Plant::read(inputs)?;
     if work.len() < plant.subproblems() {
@@ -188,7 +190,7 @@ fn job_items(job: &Job, inputs: &Inputs, work: &[i32]) -> Result<(Plant, Order),
     Ok((plant, order))
 }
 
-/// An advance: items 1 to 16. Works on the caller's work numbers; gives back the refusal, or how many subproblems were solved.
+/// An advance: items 13 to 16. Works on the caller's work numbers; gives back the refusal, or how many subproblems were solved.
 pub fn advance(job: &mut Job, inputs: &Inputs, budget: u32, work: &mut [i32], random: &mut Random) -> Result<u32, u32> {
     let expected = job_items(job, inputs, work);
     let (mut copy, mut lent_work, before) = (inputs.clone(), Lent::holding(work, || random.number()), *job);
@@ -221,7 +223,7 @@ pub fn advance(job: &mut Job, inputs: &Inputs, budget: u32, work: &mut [i32], ra
     }
 }
 
-/// Finishing: items 1 to 18. The mapping must be legal and its weight exact. Gives back the refusal, or the weight.
+/// Finishing: items 13 to 18. The mapping must be legal and its weight exact. Gives back the refusal, or the weight.
 pub fn finish(job: &Job, inputs: &Inputs, work: &[i32], mapping_room: usize, random: &mut Random) -> Result<i32, u32> {
     let expected = job_items(job, inputs, work).and_then(|(plant, order)| {
         if (job.position as usize) < plant.subproblems() {
@@ -275,7 +277,7 @@ pub fn in_slices(inputs: &Inputs, slice: usize, random: &mut Random) -> (Job, Ve
     (job, work)
 }
 
-/// Writing a certificate: items 1 to 13 and 19. It must have the values of the subproblems, and both checks must accept it. Gives back the
+/// Writing a certificate: items 13 and 19. It must have the values of the subproblems, and both checks must accept it. Gives back the
 /// refusal, or the certificate.
 pub fn write(inputs: &Inputs, work_room: usize, certificate_room: usize, random: &mut Random) -> Result<Vec<u8>, u32> {
     let expected = Solved::read(inputs).and_then(|s| s.enough_work(work_room)).and_then(|s| {
@@ -314,7 +316,7 @@ pub fn write(inputs: &Inputs, work_room: usize, certificate_room: usize, random:
     }
 }
 
-/// The check: items 1 to 12 and 20 to 24.
+/// The check: items 20 to 24.
 pub fn check(inputs: &Inputs, certificate: &[u8]) -> u32 {
     let item = match Plant::read(inputs) {
         Err(item) => item,
@@ -345,6 +347,30 @@ pub struct Lending {
     pub mapping_room: usize,
     pub certificate_room: usize,
     pub certificate: Vec<u8>,
+}
+
+impl Lending {
+    /// Right for a plant; the job is anywhere between its start and its end.
+    pub fn right(inputs: &Inputs, random: &mut Random) -> Lending {
+        let solved = Solved::read(inputs).expect("an accepted plant");
+        let (n, m, end) = (solved.plant.n(), solved.plant.m(), solved.values.len());
+        let position = if random.once_in(2) { end } else { random.below(end + 1) };
+        let sizes = sizes(inputs).expect("an accepted plant");
+        let certificate = write(inputs, sizes.work, sizes.certificate, random).expect("a written certificate");
+        Lending {
+            job: Job { idle: 0, n: n as u32, m: m as u32, position: position as u32, total: random.draw() as u32 },
+            work: solved.values,
+            budget: random.below(40) as u32,
+            mapping_room: n,
+            certificate_room: sizes.certificate,
+            certificate,
+        }
+    }
+
+    /// Wrong for every plant: no room and an idle record, so that all calls but the sizes refuse an accepted one.
+    pub fn wrong() -> Lending {
+        Lending { job: Job::fresh(), work: Vec::new(), budget: 1, mapping_room: 0, certificate_room: 0, certificate: Vec::new() }
+    }
 }
 
 /// Every call on the same inputs. Gives back the numbers: match, start, advance, finish, write, check, sizes.

@@ -1,4 +1,4 @@
-//! Tests of the library's calls, through the crate `pensummer`. What judges them is an independent reading of paper 01 and of [1] and [2] of
+//! Tests of the library's calls, through the crate `pensummer`. What judges them is an independent reading of paper 01 and of [1] to [3] of
 //! paper 02, written from the papers' words alone: none of it comes from the definitions, the proofs or the code under test.
 //!
 //! The paper's words: layout = tree, device = vertex, line = edge, kind = label, sheet = certificate, bound = dual, allowance = budget.
@@ -9,4 +9,6 @@ pub mod mapping;
 pub mod plants;
 pub mod random;
 pub mod reading;
+pub mod serials;
+pub mod tally;
 pub mod values;

@@ -1,7 +1,8 @@
-//! Plants to try: small ones of all shapes, large ones of several shapes, and tables of weights of many kinds.
+//! Plants to try: small ones of all shapes, large ones of several shapes, tables of weights of many kinds, trees with serials and without.
 
 use crate::random::Random;
-use crate::reading::{table_bytes, tree_bytes, Inputs, FORBIDDEN, WEIGHT_MOST};
+use crate::reading::{table_bytes, tree_bytes, Inputs, Places, FORBIDDEN, WEIGHT_MOST};
+use crate::serials;
 
 /// A shape: for each vertex but 0 an earlier vertex that it is joined to.
 pub type Shape = Vec<usize>;
@@ -44,7 +45,7 @@ fn form(shape: &Shape) -> String {
     (0..shape.len()).map(|root| below(&neighbours, root, root)).max().unwrap()
 }
 
-/// A tree of a shape: names, labels, the order of the edges and their first ends at random.
+/// A tree of a shape, without serials: names, labels, the order of the edges and their first ends at random.
 pub fn tree(shape: &Shape, labels: usize, edge_labels: usize, random: &mut Random) -> Vec<u8> {
     let mut names: Vec<usize> = (0..shape.len()).collect();
     random.shuffle(&mut names);
@@ -144,14 +145,16 @@ fn label_counts(random: &mut Random) -> (usize, usize) {
     }
 }
 
-/// A plant of two shapes, all else at random.
+/// A plant of two shapes, all else at random; both trees have serials, or one of them, or none.
 pub fn plant(recorded: &Shape, found: &Shape, random: &mut Random) -> Inputs {
     let labels = label_counts(random);
     let weights = (Weights::any(random), Weights::any(random));
-    weighted(recorded, found, labels, weights, random)
+    let mut inputs = weighted(recorded, found, labels, weights, random);
+    serials::give(&mut inputs, random);
+    inputs
 }
 
-/// A plant of these shapes with so many labels of vertices and of edges, and with these kinds of weights for them.
+/// A plant of these shapes with so many labels of vertices and of edges, and with these kinds of weights for them; without serials.
 pub fn weighted(recorded: &Shape, found: &Shape, labels: (usize, usize), weights: (Weights, Weights), random: &mut Random) -> Inputs {
     Inputs {
         table: table(labels.0, labels.1, weights.0, weights.1, random),
@@ -166,17 +169,17 @@ pub fn small_plant(shapes: &[Shape], random: &mut Random) -> Inputs {
     plant(recorded, found, random)
 }
 
-/// A plant with the same trees as bytes and labels, but weights and labels anew; so its certificates are as long.
+/// A plant of the same trees, but weights, labels or serials anew; so its certificates are as long.
 pub fn relabelled(of: &Inputs, random: &mut Random) -> Inputs {
     let (labels, edge_labels) = (of.table[2] as usize, of.table[3] as usize);
     let again = |bytes: &[u8], random: &mut Random| {
         let mut bytes = bytes.to_vec();
-        let n = bytes[2] as usize;
-        for vertex in 0..n {
-            bytes[3 + 3 * vertex + 2] = random.below(labels) as u8;
+        let places = Places::of(&bytes).expect("an accepted tree");
+        for vertex in 0..places.n {
+            bytes[places.label(vertex)] = random.below(labels) as u8;
         }
-        for edge in 0..n - 1 {
-            bytes[3 + 3 * n + 5 * edge + 4] = random.below(edge_labels) as u8;
+        for edge in 0..places.n - 1 {
+            bytes[places.edge(edge) + 4] = random.below(edge_labels) as u8;
         }
         bytes
     };
@@ -190,6 +193,9 @@ pub fn relabelled(of: &Inputs, random: &mut Random) -> Inputs {
     }
     if random.once_in(2) {
         other.found = again(&of.found, random);
+    }
+    if random.once_in(2) {
+        serials::give(&mut other, random);
     }
     other
 }

@@ -1,10 +1,22 @@
-//! The bytes of a table and a tree (layout), read by the paper's words: items 1 to 12.
+//! The bytes of a table and a tree (layout), read by the papers' words: items 1 to 12, 25 and 26.
 
 /// A weight that is not forbidden lies between the opposite of this and this, by paper 02, [2].
 pub const WEIGHT_MOST: i32 = 16_000_000;
 
 /// The number that stands for a forbidden weight.
 pub const FORBIDDEN: i32 = -2_147_483_648;
+
+/// A tree has no more vertices.
+pub const VERTICES_MOST: usize = 64;
+
+/// The serial of a vertex whose serial is not known, by paper 02, [3].
+pub const UNKNOWN: u32 = 0;
+
+/// The items on inputs in the order in which every call tests them: 25 after 7, 26 after 12.
+pub const INPUT_ITEMS: [u32; 14] = [1, 2, 3, 4, 5, 6, 7, 25, 8, 9, 10, 11, 12, 26];
+
+/// How many items there are.
+pub const ITEMS: usize = 26;
 
 /// A weight; none if it is forbidden.
 pub type Weight = Option<i32>;
@@ -45,9 +57,90 @@ pub struct Table {
     pub edge: Vec<Vec<Weight>>,
 }
 
+/// The two kinds of vertex records. A tree has one of them throughout.
+#[derive(Clone, Copy, Debug, PartialEq, Eq)]
+pub enum Kind {
+    /// B1 02 and the label.
+    Plain,
+    /// B1 07, the label and the serial in 4 bytes, low byte first, unsigned.
+    Serial,
+}
+
+pub const KINDS: [Kind; 2] = [Kind::Plain, Kind::Serial];
+
+impl Kind {
+    pub fn mark(self) -> [u8; 2] {
+        match self {
+            Kind::Plain => [0xB1, 0x02],
+            Kind::Serial => [0xB1, 0x07],
+        }
+    }
+
+    /// The length of a vertex record, its mark included.
+    pub fn record(self) -> usize {
+        match self {
+            Kind::Plain => 3,
+            Kind::Serial => 7,
+        }
+    }
+
+    /// The length of a tree of n vertices, by the papers.
+    pub fn length(self, n: usize) -> usize {
+        match self {
+            Kind::Plain => 8 * n - 2,
+            Kind::Serial => 12 * n - 2,
+        }
+    }
+
+    pub fn other(self) -> Kind {
+        match self {
+            Kind::Plain => Kind::Serial,
+            Kind::Serial => Kind::Plain,
+        }
+    }
+}
+
+/// An edge: its two ends and its label.
+pub type Edge = (usize, usize, usize);
+
+/// Where the records of a tree stand.
+#[derive(Clone, Copy)]
+pub struct Places {
+    pub n: usize,
+    pub kind: Kind,
+}
+
+impl Places {
+    /// By the count in the tree's head and the mark of its first vertex record; none if that is of neither kind, or cut off.
+    pub fn of(tree: &[u8]) -> Option<Places> {
+        let kind = KINDS.into_iter().find(|kind| tree.get(3..5) == Some(&kind.mark()[..]))?;
+        Some(Places { n: tree[2] as usize, kind })
+    }
+
+    pub fn vertex(self, vertex: usize) -> usize {
+        3 + self.kind.record() * vertex
+    }
+
+    pub fn label(self, vertex: usize) -> usize {
+        self.vertex(vertex) + 2
+    }
+
+    /// None in a tree without serials.
+    pub fn serial(self, vertex: usize) -> Option<usize> {
+        (self.kind == Kind::Serial).then(|| self.vertex(vertex) + 3)
+    }
+
+    pub fn edge(self, edge: usize) -> usize {
+        self.vertex(self.n) + 5 * edge
+    }
+}
+
 #[derive(Clone)]
 pub struct Tree {
+    pub kind: Kind,
     pub labels: Vec<usize>,
+    /// For each vertex its serial; all are unknown in a tree without serials.
+    pub serials: Vec<u32>,
     /// For each two vertices the label of the edge that joins them.
     pub joined: Vec<Vec<Option<usize>>>,
     /// The neighbours of each vertex, ascending.
@@ -69,11 +162,11 @@ pub struct Plant {
 }
 
 impl Plant {
-    /// Items 1 to 12.
+    /// Items 1 to 7, 25, 8 to 12 and 26.
     pub fn read(inputs: &Inputs) -> Result<Plant, u32> {
         let table = read_table(&inputs.table)?;
-        let recorded = read_tree(&inputs.recorded, &table, 3)?;
-        let found = read_tree(&inputs.found, &table, 8)?;
+        let recorded = read_tree(&inputs.recorded, &table, 3, 25)?;
+        let found = read_tree(&inputs.found, &table, 8, 26)?;
         Ok(Plant { table, recorded, found })
     }
 
@@ -92,9 +185,19 @@ impl Plant {
         self.n() * (3 * self.m() - 2)
     }
 
-    /// The weight of recorded u with found v.
+    /// The weight of recorded u with found v: forbidden if their serials are known and different, else as the table says.
     pub fn pair(&self, u: usize, v: usize) -> Weight {
-        self.table.vertex[self.recorded.labels[u]][self.found.labels[v]]
+        if self.serials_differ(u, v) {
+            None
+        } else {
+            self.table.vertex[self.recorded.labels[u]][self.found.labels[v]]
+        }
+    }
+
+    /// Whether the serials of recorded u and found v are known and different.
+    pub fn serials_differ(&self, u: usize, v: usize) -> bool {
+        let (a, b) = (self.recorded.serials[u], self.found.serials[v]);
+        a != UNKNOWN && b != UNKNOWN && a != b
     }
 
     /// The weight of the recorded edge between u and x with the found edge between v and y; both edges are there.
@@ -135,27 +238,16 @@ fn read_table(bytes: &[u8]) -> Result<Table, u32> {
     Ok(Table { vertex: weights(vertex), edge: weights(edge) })
 }
 
-/// Items 3 to 7, or 8 to 12: `first` is the number of the first of the five.
-fn read_tree(bytes: &[u8], table: &Table, first: u32) -> Result<Tree, u32> {
-    // length, marks and count
-    if bytes.len() < 3 || bytes[0] != 0xB1 || bytes[1] != 0x01 {
-        return Err(first);
-    }
-    let n = bytes[2] as usize;
-    if !(1..=64).contains(&n) || bytes.len() != 8 * n - 2 {
-        return Err(first);
-    }
-    let vertex_at = |vertex: usize| 3 + 3 * vertex;
-    let edge_at = |edge: usize| 3 + 3 * n + 5 * edge;
-    if (0..n).any(|vertex| bytes[vertex_at(vertex)..][..2] != [0xB1, 0x02])
-        || (0..n - 1).any(|edge| bytes[edge_at(edge)..][..2] != [0xB1, 0x03])
-    {
-        return Err(first);
-    }
+/// Items 3 to 7 and 25, or 8 to 12 and 26: `first` is the number of the first of the five, `twice` that of the last item.
+fn read_tree(bytes: &[u8], table: &Table, first: u32, twice: u32) -> Result<Tree, u32> {
+    let places = form(bytes).ok_or(first)?;
+    let n = places.n;
     // labels
-    let labels: Vec<usize> = (0..n).map(|vertex| bytes[vertex_at(vertex) + 2] as usize).collect();
-    let edges: Vec<(usize, usize, usize)> =
-        (0..n - 1).map(edge_at).map(|at| (bytes[at + 2] as usize, bytes[at + 3] as usize, bytes[at + 4] as usize)).collect();
+    let labels: Vec<usize> = (0..n).map(|vertex| bytes[places.label(vertex)] as usize).collect();
+    let edges: Vec<Edge> = (0..n - 1)
+        .map(|edge| places.edge(edge))
+        .map(|at| (bytes[at + 2] as usize, bytes[at + 3] as usize, bytes[at + 4] as usize))
+        .collect();
     if labels.iter().any(|&label| label >= table.vertex.len()) || edges.iter().any(|&(_, _, label)| label >= table.edge.len()) {
         return Err(first + 1);
     }
@@ -163,18 +255,8 @@ fn read_tree(bytes: &[u8], table: &Table, first: u32) -> Result<Tree, u32> {
     if edges.iter().any(|&(a, b, _)| a >= n || b >= n) {
         return Err(first + 2);
     }
-    // loops and cycles: of each vertex the part of the tree that earlier edges connect it to
-    let mut part: Vec<usize> = (0..n).collect();
-    for &(a, b, _) in &edges {
-        if part[a] == part[b] {
-            return Err(first + 3);
-        }
-        let (kept, gone) = (part[a], part[b]);
-        for p in &mut part {
-            if *p == gone {
-                *p = kept;
-            }
-        }
+    if has_loop(n, &edges) {
+        return Err(first + 3);
     }
     // degrees
     let mut joined = vec![vec![None; n]; n];
@@ -186,7 +268,47 @@ fn read_tree(bytes: &[u8], table: &Table, first: u32) -> Result<Tree, u32> {
     if neighbours.iter().any(|of| of.len() > 8) {
         return Err(first + 4);
     }
-    Ok(Tree { labels, joined, neighbours })
+    // serials
+    let serials: Vec<u32> = (0..n).map(|vertex| places.serial(vertex).map_or(UNKNOWN, |at| serial_at(bytes, at))).collect();
+    if (0..n).any(|vertex| serials[vertex] != UNKNOWN && serials[..vertex].contains(&serials[vertex])) {
+        return Err(twice);
+    }
+    Ok(Tree { kind: places.kind, labels, serials, joined, neighbours })
+}
+
+/// Where the records stand, if length, marks and count are right.
+fn form(bytes: &[u8]) -> Option<Places> {
+    let places = Places::of(bytes)?;
+    let marked = |at: usize, mark: [u8; 2]| bytes[at..at + 2] == mark;
+    let right = (1..=VERTICES_MOST).contains(&places.n)
+        && bytes.len() == places.kind.length(places.n)
+        && marked(0, [0xB1, 0x01])
+        && (0..places.n).all(|vertex| marked(places.vertex(vertex), places.kind.mark()))
+        && (0..places.n - 1).all(|edge| marked(places.edge(edge), [0xB1, 0x03]));
+    Some(places).filter(|_| right)
+}
+
+/// Whether an edge's two ends are the same vertex or already connected by earlier edges.
+fn has_loop(n: usize, edges: &[Edge]) -> bool {
+    // of each vertex the part of the tree that earlier edges connect it to
+    let mut part: Vec<usize> = (0..n).collect();
+    for &(a, b, _) in edges {
+        if part[a] == part[b] {
+            return true;
+        }
+        let (kept, gone) = (part[a], part[b]);
+        for p in &mut part {
+            if *p == gone {
+                *p = kept;
+            }
+        }
+    }
+    false
+}
+
+/// The 4 bytes at `at`, low byte first, unsigned.
+pub fn serial_at(bytes: &[u8], at: usize) -> u32 {
+    (0..4).map(|byte| u32::from(bytes[at + byte]) << (8 * byte)).sum()
 }
 
 /// The bytes of a table.
@@ -203,8 +325,8 @@ pub fn table_bytes(vertex: &[Vec<i32>], edge: &[Vec<i32>]) -> Vec<u8> {
     bytes
 }
 
-/// The bytes of a tree: vertex labels; edges, each with its two ends and its label.
-pub fn tree_bytes(labels: &[usize], edges: &[(usize, usize, usize)]) -> Vec<u8> {
+/// The bytes of a tree without serials: vertex labels; edges, each with its two ends and its label.
+pub fn tree_bytes(labels: &[usize], edges: &[Edge]) -> Vec<u8> {
     let mut bytes = vec![0xB1, 0x01, labels.len() as u8];
     for &label in labels {
         bytes.extend([0xB1, 0x02, label as u8]);

@@ -5,7 +5,8 @@ use pensummer_tests::compare;
 use pensummer_tests::mapping::{self, NONE};
 use pensummer_tests::plants::{self, large_shapes, small_shapes, Shape, Weights};
 use pensummer_tests::random::Random;
-use pensummer_tests::reading::{number_at, table_bytes, tree_bytes, Inputs, Plant, FORBIDDEN, WEIGHT_MOST};
+use pensummer_tests::reading::{number_at, table_bytes, tree_bytes, Inputs, Plant, FORBIDDEN, ITEMS, WEIGHT_MOST};
+use pensummer_tests::serials;
 use pensummer_tests::values::{gain, Order, VALUE_MOST};
 
 /// Weights at their limits.
@@ -44,12 +45,12 @@ impl Written {
 struct Tally {
     name: &'static str,
     count: usize,
-    by_number: [usize; 25],
+    by_number: [usize; ITEMS + 1],
 }
 
 impl Tally {
     fn new(name: &'static str) -> Tally {
-        Tally { name, count: 0, by_number: [0; 25] }
+        Tally { name, count: 0, by_number: [0; ITEMS + 1] }
     }
 
     /// Has both checks look at a damaged certificate.
@@ -115,7 +116,7 @@ fn written_ones_are_accepted() {
 fn buffers_short_exact_and_long() {
     let mut random = Random::of_test("certificate buffers_short_exact_and_long");
     let shapes = small_shapes();
-    let mut refusals = [0; 25];
+    let mut refusals = [0; ITEMS + 1];
     for _ in 0..400 {
         let inputs = plants::small_plant(&shapes, &mut random);
         let sizes = compare::sizes(&inputs).expect("an accepted plant");
@@ -216,7 +217,7 @@ fn certificates_of_other_plants() {
         let written = Written::small(&shapes, &mut random);
         tally.add(&written, &last.certificate);
         for _ in 0..4 {
-            // the same trees with other labels or weights, both ways
+            // the same trees with other labels, serials or weights, both ways
             let other = Written::of(plants::relabelled(&written.inputs, &mut random), &mut random);
             tally.add(&written, &other.certificate);
             tally.add(&other, &written.certificate);
@@ -372,8 +373,9 @@ fn forged_at_the_extremes() {
     while tally.count < 40_000 {
         let (recorded, found) = (random.pick(&shapes).clone(), random.pick(&shapes).clone());
         let weights = (*random.pick(&EXTREMES), *random.pick(&EXTREMES));
-        let written = Written::of(plants::weighted(&recorded, &found, (2, 2), weights, &mut random), &mut random);
-        tally.add_forged(&written, 40, &mut random);
+        let mut inputs = plants::weighted(&recorded, &found, (2, 2), weights, &mut random);
+        serials::give(&mut inputs, &mut random);
+        tally.add_forged(&Written::of(inputs, &mut random), 40, &mut random);
     }
     tally.report(40_000, &[0, 21, 22, 23, 24]);
 }

@@ -4,7 +4,8 @@ use pensummer::Job;
 use pensummer_tests::compare::{self, Solved, IDLE};
 use pensummer_tests::plants::{self, small_shapes};
 use pensummer_tests::random::Random;
-use pensummer_tests::reading::{Inputs, Plant, FORBIDDEN, WEIGHT_MOST};
+use pensummer_tests::reading::{Inputs, Plant, FORBIDDEN, ITEMS, WEIGHT_MOST};
+use pensummer_tests::serials;
 use pensummer_tests::values::{Order, VALUE_MOST};
 
 const FRESH: Job = Job { idle: 1, n: 0, m: 0, position: 0, total: 0 };
@@ -108,8 +109,22 @@ struct Kept {
 
 /// Alters some of it.
 fn alter(kept: &mut Kept, shapes: &[plants::Shape], random: &mut Random) {
+    match random.below(16) {
+        way @ 0..=5 => alter_work(kept, way, random),
+        6 => alter_record(&mut kept.job, random),
+        way @ 7..=13 => alter_inputs(&mut kept.inputs, way, shapes, random),
+        14 => {
+            let room = (kept.work.len() + random.below(4)).saturating_sub(random.below(4));
+            kept.work.resize(room, random.number());
+        }
+        _ => kept.job.total = random.draw() as u32,
+    }
+}
+
+/// Alters work numbers, and perhaps the position with them.
+fn alter_work(kept: &mut Kept, way: usize, random: &mut Random) {
     let done = (kept.job.position as usize).min(kept.work.len());
-    match random.below(14) {
+    match way {
         0 if done > 0 => {
             let at = random.below(done);
             if kept.work[at] != FORBIDDEN {
@@ -129,46 +144,57 @@ fn alter(kept: &mut Kept, shapes: &[plants::Shape], random: &mut Random) {
                 kept.job.position = if random.once_in(2) { kept.work.len() } else { random.below(kept.work.len() + 1) } as u32;
             }
         }
-        6 => match random.below(8) {
-            0 => kept.job.idle = *random.pick(&IDLE),
-            1 => kept.job.n = *random.pick(&[0, 1, 2, 6, 64, 65, u32::MAX]),
-            2 => kept.job.m = *random.pick(&[0, 1, 2, 6, 64, 65, u32::MAX]),
-            3 => kept.job.position = kept.job.position.wrapping_add(1),
-            4 => kept.job.position = kept.job.position.saturating_sub(random.below(5) as u32),
-            5 => kept.job.position = (kept.job.n * (3 * kept.job.m).saturating_sub(2)).wrapping_add(random.below(3) as u32).wrapping_sub(1),
-            6 => kept.job.total = u32::MAX - random.below(4) as u32,
-            _ => kept.job.position = random.draw() as u32,
-        },
-        7 | 8 => kept.inputs = plants::relabelled(&kept.inputs, random),
+        _ => {}
+    }
+}
+
+/// Alters the job's record.
+fn alter_record(job: &mut Job, random: &mut Random) {
+    match random.below(8) {
+        0 => job.idle = *random.pick(&IDLE),
+        1 => job.n = *random.pick(&[0, 1, 2, 6, 64, 65, u32::MAX]),
+        2 => job.m = *random.pick(&[0, 1, 2, 6, 64, 65, u32::MAX]),
+        3 => job.position = job.position.wrapping_add(1),
+        4 => job.position = job.position.saturating_sub(random.below(5) as u32),
+        5 => job.position = (job.n * (3 * job.m).saturating_sub(2)).wrapping_add(random.below(3) as u32).wrapping_sub(1),
+        6 => job.total = u32::MAX - random.below(4) as u32,
+        _ => job.position = random.draw() as u32,
+    }
+}
+
+/// Alters the table or the trees.
+fn alter_inputs(inputs: &mut Inputs, way: usize, shapes: &[plants::Shape], random: &mut Random) {
+    match way {
+        7 | 8 => *inputs = plants::relabelled(inputs, random),
         9 => {
             let other = plants::small_plant(shapes, random);
             match random.below(3) {
-                0 => kept.inputs.recorded = other.recorded,
-                1 => kept.inputs.found = other.found,
-                _ => kept.inputs = other,
+                0 => inputs.recorded = other.recorded,
+                1 => inputs.found = other.found,
+                _ => *inputs = other,
             }
         }
         10 => {
             // another tree of the same number of vertices
-            let (labels, edge_labels) = (kept.inputs.table[2] as usize, kept.inputs.table[3] as usize);
-            let tree = if random.once_in(2) { &mut kept.inputs.recorded } else { &mut kept.inputs.found };
+            let (labels, edge_labels) = (inputs.table[2] as usize, inputs.table[3] as usize);
+            let tree = if random.once_in(2) { &mut inputs.recorded } else { &mut inputs.found };
             let shape = plants::middle_shape(tree[2] as usize, random);
             *tree = plants::tree(&shape, labels, edge_labels, random);
         }
         11 => {
             let part = match random.below(3) {
-                0 => &mut kept.inputs.table,
-                1 => &mut kept.inputs.recorded,
-                _ => &mut kept.inputs.found,
+                0 => &mut inputs.table,
+                1 => &mut inputs.recorded,
+                _ => &mut inputs.found,
             };
             let at = random.below(part.len());
             part[at] ^= 1 << random.below(8);
         }
-        12 => {
-            let room = (kept.work.len() + random.below(4)).saturating_sub(random.below(4));
-            kept.work.resize(room, random.number());
+        _ => {
+            // another serial, perhaps one of this tree or of the other
+            let given = serials::of_both(inputs);
+            serials::alter(if random.once_in(2) { &mut inputs.recorded } else { &mut inputs.found }, &given, random);
         }
-        _ => kept.job.total = random.draw() as u32,
     }
 }
 
@@ -176,7 +202,7 @@ fn alter(kept: &mut Kept, shapes: &[plants::Shape], random: &mut Random) {
 fn altered_memory() {
     let mut random = Random::of_test("altered_memory");
     let shapes = small_shapes();
-    let (mut alterations, mut finished, mut refusals) = (0, 0, [0; 25]);
+    let (mut alterations, mut finished, mut refusals) = (0, 0, [0; ITEMS + 1]);
     for _ in 0..6_000 {
         let inputs = plants::small_plant(&shapes, &mut random);
         let room = compare::sizes(&inputs).expect("an accepted plant").work;
@@ -208,7 +234,7 @@ fn altered_memory() {
             }
         }
     }
-    for item in [0, 1, 2, 3, 4, 5, 8, 9, 10, 13, 14, 15, 16, 17, 18] {
+    for item in [0, 1, 2, 3, 4, 5, 8, 9, 10, 13, 14, 15, 16, 17, 18, 25, 26] {
         assert!(refusals[item] > 0, "item {item} came up: {refusals:?}");
     }
     println!("{alterations} alterations, {finished} legal finishes, calls by number {refusals:?}");
@@ -245,7 +271,7 @@ fn finish_over_any_numbers() {
 fn records_and_numbers_at_the_limits() {
     let mut random = Random::of_test("records_and_numbers_at_the_limits");
     let shapes = small_shapes();
-    let mut refusals = [0; 25];
+    let mut refusals = [0; ITEMS + 1];
     for _ in 0..300 {
         let inputs = plants::small_plant(&shapes, &mut random);
         let solved = Solved::read(&inputs).expect("an accepted plant");

@@ -1,12 +1,13 @@
 //! Plants of 64 by 64 vertices of several shapes, against the independent dynamic program; the longest certificate is among those written.
 
-use pensummer::Job;
+use pensummer::{Job, TREE_MOST, VERTICES_MOST};
 use pensummer_tests::certificate;
 use pensummer_tests::compare::{self, Solved};
 use pensummer_tests::mapping::NONE;
 use pensummer_tests::plants::{self, large_shapes, Shape, Weights, WEIGHTS};
 use pensummer_tests::random::Random;
-use pensummer_tests::reading::{number_at, Inputs};
+use pensummer_tests::reading::{number_at, Inputs, ITEMS, UNKNOWN, WEIGHT_MOST};
+use pensummer_tests::serials;
 use pensummer_tests::values::VALUE_MOST;
 
 /// The work numbers that this plant wants.
@@ -14,7 +15,14 @@ fn wanted(inputs: &Inputs) -> usize {
     compare::sizes(inputs).expect("an accepted plant").work
 }
 
-/// A plant of two large shapes with these kinds of weights.
+/// A plant of two large shapes with these kinds of weights; serials in both trees, or one, or none.
+fn large_mixed(recorded: &Shape, found: &Shape, vertex: Weights, edge: Weights, random: &mut Random) -> Inputs {
+    let mut inputs = large(recorded, found, vertex, edge, random);
+    serials::give(&mut inputs, random);
+    inputs
+}
+
+/// The same without serials.
 fn large(recorded: &Shape, found: &Shape, vertex: Weights, edge: Weights, random: &mut Random) -> Inputs {
     let labels = *random.pick(&[(1, 1), (3, 2), (32, 8)]);
     plants::weighted(recorded, found, labels, (vertex, edge), random)
@@ -29,7 +37,7 @@ fn with_itself(shape: &Shape, weights: Weights, random: &mut Random) -> Inputs {
 #[test]
 fn plants_of_middle_size() {
     let mut random = Random::of_test("plants_of_middle_size");
-    let (mut tried, mut damaged, mut refusals) = (0, 0, [0; 25]);
+    let (mut tried, mut damaged, mut refusals) = (0, 0, [0; ITEMS + 1]);
     for _ in 0..1_500 {
         // up to 20 vertices a side, sometimes one side up to 64; matchings of up to 8 children with 8 neighbours
         let (n, m) = match random.below(10) {
@@ -69,7 +77,7 @@ fn every_pair_of_shapes() {
         for (_, found) in &shapes {
             let vertex = *random.pick(&[Weights::Wide, Weights::SmallForbidden, Weights::Small, Weights::Positive, Weights::Extremes]);
             let edge = *random.pick(&[Weights::Wide, Weights::SmallForbidden, Weights::Small, Weights::Positive]);
-            let inputs = large(recorded, found, vertex, edge, &mut random);
+            let inputs = large_mixed(recorded, found, vertex, edge, &mut random);
             compare::match_trees(&inputs, wanted(&inputs) + 1, 65, &mut random).expect("a match");
             tried += 1;
         }
@@ -153,6 +161,47 @@ fn the_lightest_mapping() {
     }
 }
 
+/// The match, a job and a certificate of a plant all give this weight. Gives back the mapping of the match.
+fn all_give(inputs: &Inputs, heaviest: i32, random: &mut Random) -> Vec<u8> {
+    let sizes = compare::sizes(inputs).expect("an accepted plant");
+    let (job, work) = compare::in_slices(inputs, sizes.work / 8, random);
+    assert_eq!(compare::finish(&job, inputs, &work, VERTICES_MOST, random), Ok(heaviest));
+    // compare::write has both checks accept it
+    let written = compare::write(inputs, sizes.work, sizes.certificate, random).expect("a written certificate");
+    assert_eq!(number_at(&written, 4), heaviest);
+    compare::match_trees(inputs, sizes.work, VERTICES_MOST, random).expect("a match")
+}
+
+#[test]
+fn serials_all_known() {
+    let mut random = Random::of_test("serials_all_known");
+    for (_, shape) in &large_shapes(&mut random) {
+        let plain = with_itself(shape, Weights::Most, &mut random);
+        let all = serials::known(2 * VERTICES_MOST, &mut random);
+        let (one, other) = all.split_at(VERTICES_MOST);
+        let under = |recorded: &[u32], found: &[u32]| Inputs {
+            table: plain.table.clone(),
+            recorded: serials::numbered(&plain.recorded, recorded),
+            found: serials::numbered(&plain.found, found),
+        };
+        // the same: each vertex with itself, and with no other
+        let same = under(one, one);
+        assert_eq!((same.recorded.len(), same.found.len()), (TREE_MOST, TREE_MOST));
+        assert_eq!(all_give(&same, VALUE_MOST, &mut random), (0..VERTICES_MOST as u8).collect::<Vec<u8>>());
+        // different throughout: nothing
+        assert_eq!(all_give(&under(one, other), 0, &mut random), [NONE; VERTICES_MOST]);
+        // and but for one that is unknown: one pair
+        let (mut found, v) = (other.to_vec(), random.below(VERTICES_MOST));
+        found[v] = UNKNOWN;
+        let mapping = all_give(&under(one, &found), WEIGHT_MOST, &mut random);
+        assert_eq!(mapping.into_iter().filter(|&partner| partner != NONE).collect::<Vec<u8>>(), [v as u8]);
+        // all unknown: as without
+        let unknown = [UNKNOWN; VERTICES_MOST];
+        let mapping = all_give(&plain, VALUE_MOST, &mut random);
+        assert_eq!(all_give(&under(&unknown, &unknown), VALUE_MOST, &mut random), mapping);
+    }
+}
+
 #[test]
 fn jobs_in_slices() {
     let mut random = Random::of_test("large jobs_in_slices");
@@ -160,7 +209,7 @@ fn jobs_in_slices() {
     let mut tried = 0;
     for (_, shape) in &shapes {
         let found = &random.pick(&shapes).1;
-        let inputs = large(shape, found, Weights::Wide, Weights::SmallForbidden, &mut random);
+        let inputs = large_mixed(shape, found, Weights::Wide, Weights::SmallForbidden, &mut random);
         let solved = Solved::read(&inputs).expect("an accepted plant");
         let (job, mut work) = compare::in_slices(&inputs, 750, &mut random);
         assert_eq!(job, Job { idle: 0, n: 64, m: 64, position: 12_160, total: 12_160 });
@@ -188,7 +237,7 @@ fn certificates() {
         for (_, recorded) in &shapes {
             let vertex = *random.pick(&[Weights::Wide, Weights::Ties, Weights::Positive, Weights::Extremes, Weights::Forbidden]);
             let edge = *random.pick(&[Weights::Wide, Weights::Ties, Weights::Positive, Weights::Small]);
-            let inputs = large(recorded, found, vertex, edge, &mut random);
+            let inputs = large_mixed(recorded, found, vertex, edge, &mut random);
             let sizes = compare::sizes(&inputs).expect("an accepted plant");
             let length = sizes.certificate;
             assert_eq!((sizes.subproblems, sizes.work), (12_160, 12_160), "{name}");

@@ -1,11 +1,12 @@
 //! How much to lend: the three numbers against a count, and what they are good for. Every call is lent exactly so much, and one less; the counts
-//! of jobs in slices are added up; every refusal comes up alone and together with every other.
+//! of jobs in slices are added up; every refusal of inputs comes up alone and together with every other, in every call.
 
 use pensummer_tests::certificate;
 use pensummer_tests::compare::{self, every_call, Lending};
 use pensummer_tests::plants::{self, small_shapes, Weights};
 use pensummer_tests::random::Random;
-use pensummer_tests::reading::{table_bytes, tree_bytes, Inputs, WEIGHT_MOST};
+use pensummer_tests::reading::{table_bytes, tree_bytes, Inputs, Kind, INPUT_ITEMS, KINDS, WEIGHT_MOST};
+use pensummer_tests::serials;
 
 /// Lends every call exactly what is wanted, and then one work number or one byte less.
 fn exactly_and_one_less(inputs: &Inputs, random: &mut Random) {
@@ -83,8 +84,9 @@ fn largest_plants() {
     }
 }
 
-/// A plant with these faults, by their numbers: a part with several has the bytes of each in another place.
-fn faulty(items: &[u32]) -> Inputs {
+/// A plant with these faults, by their numbers: a part with several has the bytes of each in another place. Its trees are of these kinds;
+/// with serials, all are known.
+fn faulty(items: &[u32], kinds: [Kind; 2]) -> Inputs {
     let has = |item: u32| items.contains(&item);
     let mut table = table_bytes(&[vec![5, -2], vec![-2, 3]], &[vec![1]]);
     if has(1) {
@@ -93,42 +95,69 @@ fn faulty(items: &[u32]) -> Inputs {
     if has(2) {
         table[6..10].copy_from_slice(&(WEIGHT_MOST + 1).to_le_bytes());
     }
-    let tree = |first: u32| {
-        // a path of three, and then a centre with leaves: each fault has edges of its own
-        let leaves = if has(first + 4) { 9 } else { 8 };
-        let mut edges: Vec<(usize, usize, usize)> = vec![(0, 1, 0), (1, 2, 0), (2, 3, 0)];
-        edges.extend((0..leaves - 1).map(|leaf| (3, 4 + leaf, 0)));
-        let n = edges.len() + 1;
-        if has(first + 3) {
-            edges[0] = (2, 1, 0);
+    let recorded = faulty_tree([3, 4, 5, 6, 7, 25].map(has), kinds[0]);
+    let found = faulty_tree([8, 9, 10, 11, 12, 26].map(has), kinds[1]);
+    Inputs { table, recorded, found }
+}
+
+/// A tree with some of the six faults that trees can have.
+fn faulty_tree([form, label, number, cycle, degree, serial]: [bool; 6], kind: Kind) -> Vec<u8> {
+    // a path of three, and then a centre with leaves: each fault has edges of its own
+    let leaves = if degree { 9 } else { 8 };
+    let mut edges: Vec<(usize, usize, usize)> = vec![(0, 1, 0), (1, 2, 0), (2, 3, 0)];
+    edges.extend((0..leaves - 1).map(|leaf| (3, 4 + leaf, 0)));
+    let n = edges.len() + 1;
+    if cycle {
+        edges[0] = (2, 1, 0);
+    }
+    if number {
+        edges[1] = (1, n, 0);
+    }
+    let mut labels = vec![0; n];
+    if label {
+        labels[0] = 2;
+    }
+    let mut bytes = tree_bytes(&labels, &edges);
+    if kind == Kind::Serial {
+        let mut serials: Vec<u32> = (1..=n as u32).collect();
+        if serial {
+            serials[4] = serials[1];
         }
-        if has(first + 2) {
-            edges[1] = (1, n, 0);
-        }
-        let mut labels = vec![0; n];
-        if has(first + 1) {
-            labels[0] = 2;
-        }
-        let mut bytes = tree_bytes(&labels, &edges);
-        if has(first) {
-            bytes[1] = 7;
-        }
-        bytes
-    };
-    Inputs { table, recorded: tree(3), found: tree(8) }
+        bytes = serials::numbered(&bytes, &serials);
+    }
+    if form {
+        // the head's mark is that of a vertex with a serial
+        bytes[1] = 7;
+    }
+    bytes
 }
 
 #[test]
 fn refusals_alone_and_together() {
-    assert!(compare::sizes(&faulty(&[])).is_ok());
-    for first in 1..=12 {
-        assert_eq!(compare::sizes(&faulty(&[first])), Err(first), "alone");
-        for second in first + 1..=12 {
-            assert_eq!(compare::sizes(&faulty(&[first, second])), Err(first), "with {second}");
+    let mut random = Random::of_test("refusals_alone_and_together");
+    let mut tried = 0;
+    for kinds in KINDS.into_iter().flat_map(|recorded| KINDS.map(|found| [recorded, found])) {
+        let right = faulty(&[], kinds);
+        let lendings = [Lending::right(&right, &mut random), Lending::wrong()];
+        // match, start, advance, finish, write, check, sizes: what is lent counts only where the inputs are accepted
+        assert_eq!(every_call(&right, &lendings[1], &mut random), [13, 13, 13, 13, 13, 20, 0]);
+        let mut refused = |items: &[u32]| {
+            for lending in &lendings {
+                assert_eq!(every_call(&faulty(items, kinds), lending, &mut random), [items[0]; 7], "{items:?} in {kinds:?}");
+                tried += 1;
+            }
+        };
+        // a serial can stand twice only where there are serials
+        let can_be = |item: u32| (item != 25 || kinds[0] == Kind::Serial) && (item != 26 || kinds[1] == Kind::Serial);
+        let items: Vec<u32> = INPUT_ITEMS.into_iter().filter(|&item| can_be(item)).collect();
+        for (at, &first) in items.iter().enumerate() {
+            refused(&[first]);
+            items[at + 1..].iter().for_each(|&second| refused(&[first, second]));
+            // and all that come later
+            refused(&items[at..]);
         }
-        // and all that come later
-        assert_eq!(compare::sizes(&faulty(&(first..=12).collect::<Vec<u32>>())), Err(first));
     }
+    println!("{tried} faulty plants, each to every call");
 }
 
 #[test]

@@ -11,6 +11,8 @@ mod judge;
 mod made;
 #[path = "text/old.rs"]
 mod old;
+#[path = "text/serials.rs"]
+mod serials;
 #[path = "text/whole.rs"]
 mod whole;
 #[path = "text/write.rs"]
@@ -20,24 +22,26 @@ use damage::{damage, long_texts, random_bytes, salad};
 use desk::answer::{Answer, Wrong};
 use desk::bytes::Bytes;
 use desk::input::Input;
-use desk::plant::{At, Plant, Tree};
+use desk::plant::{At, Fault, Plant, Tree};
 use desk::report::Report;
 use desk::text::{read, Text};
 use judge::{files, judge_fault, judge_names, judge_places, judge_print, shown};
 use made::{Made, Size};
 use pensummer_tests::mapping;
 use pensummer_tests::random::Random;
-use pensummer_tests::reading::{self, Inputs};
+use pensummer_tests::reading::Inputs;
+use serials::Judged;
 use std::collections::BTreeSet;
 use std::panic::{catch_unwind, AssertUnwindSafe};
 use std::time::{Duration, Instant};
 
-/// The last one has what the old grammar had not.
-const EXAMPLES: [&str; 4] = [
+/// The last two have what the old grammar had not.
+const EXAMPLES: [&str; 5] = [
     include_str!("../../../examples/cellar.txt"),
     include_str!("../../../examples/pool.txt"),
     include_str!("../../../examples/small_plant_3.txt"),
     include_str!("../../../examples/named.txt"),
+    include_str!("../../../examples/serials.txt"),
 ];
 
 /// No input is longer.
@@ -64,7 +68,7 @@ fn size(random: &mut Random) -> Size {
 #[test]
 fn every_form_gives_its_bytes_and_names() {
     let mut random = Random::of_test("every_form_gives_its_bytes_and_names");
-    let (mut by_files, mut parted) = ([0; 3], 0);
+    let (mut by_files, mut parted, mut kinds) = ([0; 3], 0, [0; 4]);
     for _ in 0..6000 {
         let size = size(&mut random);
         let made = Made::any(&mut random, size, false);
@@ -75,12 +79,16 @@ fn every_form_gives_its_bytes_and_names() {
         let names = |tree: &Tree| tree.vertices.iter().map(|vertex| vertex.name.clone()).collect::<Vec<_>>();
         assert_eq!(names(&plant.recorded), made.trees[0].names, "{}", shown(&texts));
         assert_eq!(names(&plant.found), made.trees[1].names, "{}", shown(&texts));
+        let serials = [&plant.recorded, &plant.found].map(judge::serials);
+        assert_eq!(serials, [made.trees[0].serials.clone(), made.trees[1].serials.clone()], "{}", shown(&texts));
+        kinds[usize::from(serials[0].is_some()) + 2 * usize::from(serials[1].is_some())] += 1;
         judge_places(&texts, &plant);
         parted += usize::from(judge_print(&texts, &plant));
         by_files[texts.len() - 1] += 1;
     }
     println!("texts in 1, 2 and 3 files: {by_files:?}; bytes parted and read again: {parted}");
-    assert!(by_files.iter().all(|&count| count > 1000) && parted > 1000);
+    println!("with serials in no tree, in the recorded one, in the found one, in both: {kinds:?}");
+    assert!(by_files.iter().all(|&count| count > 1000) && parted > 1000 && kinds.iter().all(|&count| count > 600));
 }
 
 /// In a tree, the words of a line of names are an edge of two vertices with these names, or a fault; what stands behind is not lost.
@@ -101,7 +109,7 @@ fn no_word_of_a_tree_is_lost() {
 }
 
 /// Lines that are at fault in a table or in a recorded tree of two vertices `a` and 1, the column of the fault, and words of its reason.
-const WRONG_IN_TABLE: [(&str, usize, &str); 14] = [
+const WRONG_IN_TABLE: [(&str, usize, &str); 15] = [
     ("labels 1 1", 1, "stands once"),
     ("  vertex 1 2", 12, "2 weights"),
     ("vertex 1.5", 8, "a weight is"),
@@ -116,8 +124,9 @@ const WRONG_IN_TABLE: [(&str, usize, &str); 14] = [
     ("vertex-default 1 2", 1, "one weight"),
     ("vertex-pair 0 0", 1, "a found label and a weight"),
     ("found 0", 1, "after the recorded tree"),
+    ("  serials 0", 3, "stands in a tree"),
 ];
-const WRONG_IN_TREE: [(&str, usize, &str); 14] = [
+const WRONG_IN_TREE: [(&str, usize, &str); 35] = [
     ("0", 1, "an edge is"),
     ("ä-1 0-", 5, "no blanks"),
     ("0-1:", 1, "no blanks"),
@@ -132,6 +141,27 @@ const WRONG_IN_TREE: [(&str, usize, &str); 14] = [
     ("b=0=0", 1, "a vertex is"),
     ("\"  \"=0", 1, "missing"),
     ("vertex 1", 1, "an edge is"),
+    ("serials", 1, "has a number for each vertex"),
+    ("serials 1 2\n\tserials", 2, "has a number for each vertex"),
+    ("serials 4294967296 0", 9, "a serial is a number from 0 to 4294967295, not `4294967296`"),
+    ("serials 0 -1", 11, "a serial is a number from 0 to 4294967295, not `-1`"),
+    ("serials 0  x", 12, "a serial is a number"),
+    ("serials 0 \"1\"", 11, "a serial is a number"),
+    ("serials a=4294967296", 11, "a serial is a number from 0 to 4294967295, not `4294967296`"),
+    ("serials \"a\"=-1", 13, "a serial is a number from 0 to 4294967295, not `-1`"),
+    ("serials 1=0 a=", 13, "no blanks"),
+    ("serials 1", 1, "2 vertices and 1 serial;"),
+    ("serials 1 2 3", 13, "one too many; the tree has 2 vertices"),
+    ("serials 1\nserials 2\nserials 3", 9, "one too many; the tree has 2 vertices"),
+    ("serials ä=0", 9, "is named `ä`"),
+    ("serials A=0", 9, "is named `A`; there is `a`"),
+    ("serials 2=0", 9, "no vertex 2"),
+    ("serials 256=0", 9, "0 to 255"),
+    ("serials a=0 0=0", 13, "vertex 0 has its serial already"),
+    ("serials 0 a=0", 11, "do not mix"),
+    ("serials a=0 0", 13, "do not mix"),
+    ("serials 1=0\nserials 5 6", 9, "do not mix"),
+    ("0-1 serials 1 2", 5, "an edge is"),
 ];
 
 #[test]
@@ -275,13 +305,13 @@ fn old_text(random: &mut Random) -> (Vec<u8>, bool) {
 #[test]
 fn refused_plants_have_a_place() {
     let mut random = Random::of_test("refused_plants_have_a_place");
-    let mut items = [0; 13];
+    let mut items = [0; 27];
     for _ in 0..20_000 {
         let size = *random.pick(&[Size::Small(7), Size::Any, Size::Wrong, Size::Wrong]);
         let made = Made::any(&mut random, size, false);
         let texts = files(&made.texts(&mut random));
         let input = Input::of(plant_of(&texts));
-        let expected = reading::Plant::read(&made.inputs()).map(|_| ());
+        let expected = Judged::read(&made).map(|_| ());
         let got = input.accepted();
         let item = got.as_ref().err().map(|refused| refused.refusal.number());
         assert_eq!(item, expected.err(), "{}", shown(&texts));
@@ -289,12 +319,32 @@ fn refused_plants_have_a_place() {
         if let Err(refused) = got {
             let fault = refused.fault.as_ref().unwrap_or_else(|| panic!("item {item:?} has no place{}", shown(&texts)));
             judge_fault(&texts, fault);
+            if item >= Some(25) {
+                judge_twice(&texts, fault, &made.trees[usize::from(item == Some(26))]);
+            }
             let json = Report { command: "match", refusal: Some(&refused), ..Report::default() }.json();
             assert!(forms::json_texts(&json).contains(&fault.reason), "{json}");
         }
     }
-    println!("accepted: {}; refused by the items 1 to 12: {:?}", items[0], &items[1..]);
-    assert!(items.iter().all(|&count| count > 4), "{items:?}");
+    println!("accepted: {}; refused by the items 1 to 12: {:?}; by 25 and 26: {:?}", items[0], &items[1..13], &items[25..]);
+    assert!(items[..13].iter().chain(&items[25..]).all(|&count| count > 4), "{items:?}");
+}
+
+/// The fault of a serial that stands twice is where it stands, and its reason names an earlier vertex that has it.
+fn judge_twice(texts: &[Text], fault: &Fault, tree: &made::Tree) {
+    let serials = tree.serials.as_ref().expect("serials");
+    let lines = judge::Lines::of(texts);
+    let there: String = lines.at(&fault.place).expect("a place").iter().take_while(|c| c.is_ascii_digit()).collect();
+    let serial: u32 = there.parse().expect("a serial");
+    let earlier = serials.iter().position(|&other| other == serial).expect("the first one");
+    let vertex = tree.names[earlier].as_ref().map_or(String::new(), |name| format!(" {}", words(name)));
+    assert_eq!(fault.reason, format!("serial {serial} stands at vertex {earlier}{vertex} already"), "{}", shown(texts));
+    assert!(serial != 0 && serials.iter().filter(|&&other| other == serial).count() > 1, "{fault}{}", shown(texts));
+}
+
+/// A name as a message has it: what steers a terminal is made visible.
+fn words(name: &str) -> String {
+    name.chars().map(|c| if c == '\u{202e}' { char::REPLACEMENT_CHARACTER } else { c }).collect()
 }
 
 /// All that is printed of an answer has its form.
@@ -313,6 +363,7 @@ fn judge_printed(texts: &[Text], plant: &Plant, bytes: &Bytes, answer: &Answer) 
         );
     }
     forms::judge_xml(&desk::picture::picture(answer, "a <title> & \"more\""));
+    judge_serials(plant, answer);
     let plain = desk::say::plain(answer);
     match Answer::read(plant, bytes, &Text { file: "plain".into(), bytes: plain.clone().into_bytes() }) {
         Ok(again) => assert_eq!(&again, answer),
@@ -320,8 +371,24 @@ fn judge_printed(texts: &[Text], plant: &Plant, bytes: &Bytes, answer: &Answer) 
     }
 }
 
+/// Every known serial is said, listed, drawn and reported, and no unknown one is reported.
+fn judge_serials(plant: &Plant, answer: &Answer) {
+    let json = Report { command: "match", answer: Some(answer), ..Report::default() }.json();
+    let all = [&plant.recorded, &plant.found].map(|tree| judge::serials(tree).unwrap_or_else(|| vec![0; tree.size()])).concat();
+    let [said, listed, drawn] = [desk::say::say(answer), desk::listing::listing(answer), desk::picture::picture(answer, "plant")];
+    for serial in all.iter().filter(|&&serial| serial != 0) {
+        assert!(said.contains(&format!("serial {serial})")), "{serial}: {said}");
+        assert!(listed.split([' ', ',', '\n']).any(|word| word == serial.to_string()), "{serial}: {listed}");
+        let number = |text: &str| text.chars().take_while(char::is_ascii_digit).collect::<String>();
+        assert!(drawn.split(", serial ").skip(1).any(|rest| number(rest) == serial.to_string()), "{serial}: {drawn}");
+        assert!(json.contains(&format!(",\"serial\":{serial},")), "{serial}: {json}");
+    }
+    let unknown = all.iter().filter(|&&serial| serial == 0).count();
+    assert_eq!(json.matches(",\"serial\":null,").count(), unknown, "{json}");
+}
+
 /// A damaged answer is a heaviest mapping too, or it has a line that is at fault. Gives how many were.
-fn judge_damaged(bytes: &Bytes, answer: &Answer, judged: &reading::Plant, random: &mut Random) -> usize {
+fn judge_damaged(bytes: &Bytes, answer: &Answer, judged: &Judged, random: &mut Random) -> usize {
     let mut accepted = 0;
     for _ in 0..5 {
         let mut text = desk::say::plain(answer).into_bytes();
@@ -330,8 +397,8 @@ fn judge_damaged(bytes: &Bytes, answer: &Answer, judged: &reading::Plant, random
         match Answer::read(answer.plant, bytes, &texts[0]) {
             Ok(other) => {
                 let mapping: Vec<u8> = other.partner.iter().map(|v| v.map_or(mapping::NONE, |v| v as u8)).collect();
-                assert!(mapping::is_mapping(judged, &mapping), "{mapping:?}{}", shown(&texts));
-                assert_eq!((other.weight, mapping::weight(judged, &mapping)), (answer.weight, answer.weight), "{}", shown(&texts));
+                assert!(judged.is_mapping(&mapping), "{mapping:?}{}", shown(&texts));
+                assert_eq!((other.weight, judged.weight(&mapping)), (answer.weight, answer.weight), "{}", shown(&texts));
                 accepted += 1;
             }
             Err(Wrong::Malformed(fault) | Wrong::NotAccepted(fault)) => judge_fault(&texts, &fault),
@@ -344,22 +411,23 @@ fn judge_damaged(bytes: &Bytes, answer: &Answer, judged: &reading::Plant, random
 #[test]
 fn certain_is_what_all_heaviest_mappings_say() {
     let mut random = Random::of_test("certain_is_what_all_heaviest_mappings_say");
-    let (mut counts, mut damaged) = (whole::Said::default(), 0);
+    let (mut counts, mut damaged, mut by_serials) = (whole::Said::default(), 0, 0);
     for _ in 0..1200 {
         let made = Made::any(&mut random, Size::Small(5), false);
         let texts = files(&made.texts(&mut random));
         let input = Input::of(plant_of(&texts));
         let plant = input.accepted().unwrap_or_else(|refused| panic!("{}{}", refused.refusal, shown(&texts)));
         let answer = Answer::found(plant, &input.bytes).unwrap_or_else(|refusal| panic!("{refusal}{}", shown(&texts)));
-        let judged = reading::Plant::read(&made.inputs()).expect("an accepted plant");
+        let judged = Judged::read(&made).ok().expect("an accepted plant");
+        by_serials += judged.forbidden_by_serials();
         let right = catch_unwind(AssertUnwindSafe(|| whole::judge_certainty(&judged, &answer, &mut counts)));
         right.unwrap_or_else(|_| panic!("not so: {:?} {:?}{}", answer.certain, answer.found_certain, shown(&texts)));
         judge_printed(&texts, plant, &input.bytes, &answer);
         damaged += judge_damaged(&input.bytes, &answer, &judged, &mut random);
     }
     println!("damaged answers that are answers still: {damaged}");
-    println!("1200 plants, of their vertices: {counts:?}");
-    assert!(counts.certain > 1000 && counts.another > 300 && counts.none > 100 && counts.unknown > 3, "{counts:?}");
+    println!("1200 plants, of their vertices: {counts:?}; pairs that serials alone forbid: {by_serials}");
+    assert!(counts.certain > 1000 && counts.another > 300 && counts.none > 100 && counts.unknown > 3 && by_serials > 400, "{counts:?}");
 }
 
 #[test]
@@ -372,7 +440,7 @@ fn answers_of_any_size_are_printed() {
         let input = Input::of(plant_of(&texts));
         let plant = input.accepted().unwrap_or_else(|refused| panic!("{}{}", refused.refusal, shown(&texts)));
         let answer = Answer::found(plant, &input.bytes).unwrap_or_else(|refusal| panic!("{refusal}{}", shown(&texts)));
-        let judged = reading::Plant::read(&made.inputs()).expect("an accepted plant");
+        let judged = Judged::read(&made).ok().expect("an accepted plant");
         whole::judge_unknown(&judged, &answer, &mut counts);
         judge_printed(&texts, plant, &input.bytes, &answer);
     }

@@ -33,7 +33,7 @@ pub fn show(plant: &Plant, certificate: &Certificate) -> String {
     format!("weight {}\n\nmapping\n{mapping}\n{LEGEND}{subproblems}", certificate.weight)
 }
 
-/// A recorded vertex and its partner, each with its label.
+/// A recorded vertex and its partner, each with its label, and its serial if that is known.
 fn pair(plant: &Plant, u: usize, partner: u8) -> [String; 4] {
     let v = usize::from(partner);
     let [name, label] = if v < plant.found.size() {
@@ -47,9 +47,9 @@ fn pair(plant: &Plant, u: usize, partner: u8) -> [String; 4] {
     [recorded, own, name, label]
 }
 
-/// A vertex and its label.
+/// A vertex, and its label with its serial if that is known.
 fn vertex(plant: &Plant, tree: &Tree, vertex: usize) -> [String; 2] {
-    [tree.called(vertex), plant.table.vertex.called(tree.label(vertex))]
+    [tree.called(vertex), plant.table.vertex.called(tree.label(vertex)) + &tree.serial_after(", ", vertex)]
 }
 
 fn subproblem(plant: &Plant, record: &Record) -> [String; 8] {

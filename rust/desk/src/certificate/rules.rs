@@ -71,8 +71,12 @@ impl<'a> Rules<'a> {
             return None;
         }
         let labels = &self.plant.table.vertex;
-        let [a, b] = [labels.called(self.plant.recorded.label(u)), labels.called(self.plant.found.label(v))];
-        Some(format!("{} has the partner {}; the pair of {a} and {b} is forbidden", self.recorded(u), self.found(v)))
+        let [a, b] = [self.plant.recorded.label(u), self.plant.found.label(v)].map(|label| labels.called(label));
+        let why = match self.plant.serials_apart(u, v) {
+            Some([a, b]) => format!("their serials, {a} and {b}, differ, so that the pair is forbidden"),
+            None => format!("the pair of {a} and {b} is forbidden"),
+        };
+        Some(format!("{} has the partner {}; {why}", self.recorded(u), self.found(v)))
     }
 
     /// Two vertices have different partners, and are joined exactly if these are, by an edge pair that is allowed.
@@ -135,12 +139,14 @@ impl<'a> Rules<'a> {
 
     /// A forbidden pair has the forbidden value and duals 0.
     fn forbidden(&self, record: &Record) -> Option<(usize, String)> {
+        let serials = self.plant.serials_apart(record.u, record.v);
+        let why = serials.map_or(String::new(), |[a, b]| format!(" by its serials, {a} and {b}"));
         if let Some(value) = allowed(record.value) {
-            let what = format!("has the value {value}; the pair is forbidden, so its value is the forbidden number");
+            let what = format!("has the value {value}; the pair is forbidden{why}, so its value is the forbidden number");
             return Some((record.value_at(), what));
         }
         let dual = record.duals().find(|dual| dual.value != 0)?;
-        Some((dual.offset, format!("has the dual {}; the pair is forbidden, so its duals are 0", self.dual(record, dual))))
+        Some((dual.offset, format!("has the dual {}; the pair is forbidden{why}, so its duals are 0", self.dual(record, dual))))
     }
 
     /// No dual is negative.

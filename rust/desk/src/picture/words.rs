@@ -9,17 +9,18 @@ pub const SIDES: [&str; 2] = ["recorded", "found"];
 /// Names of vertices are cut at so many times the font size in large plants.
 const LONGEST: f64 = 24.0;
 
-/// The name and the label of a vertex, without the label's number if that stands behind; and the number.
+/// The name and the label of a vertex, without what stands behind: the label's number if it has a name, and the serial
+/// if it is known; and these.
 fn parts(answer: &Answer, side: usize, u: usize) -> (String, String) {
     let tree = [&answer.plant.recorded, &answer.plant.found][side];
     let weights = &answer.plant.table.vertex;
     let label = tree.label(u);
     let number = weights.names.get(label).map_or(String::new(), |_| format!(" ({label})"));
     let name = tree.vertices[u].name.as_ref().map_or(String::new(), |name| format!("{name}: "));
-    (name + &weights.called(label), number)
+    (name + &weights.called(label), number + &tree.serial_after(", ", u))
 }
 
-/// A vertex by its name and its label.
+/// A vertex by its name, its label and its serial.
 fn called(answer: &Answer, side: usize, u: usize) -> String {
     let (name, number) = parts(answer, side, u);
     name + &number

@@ -189,7 +189,13 @@ fn mapping_weighed(whole: &Whole, random: &mut Random, bytes: &mut Vec<u8>) {
 fn mapping_weight(plant: &Plant, partners: &[u8]) -> i32 {
     let found = Graph::of(&plant.found);
     let partner = |u: usize| Some(usize::from(partners[u])).filter(|&v| v < plant.found.size());
-    let vertex = |u: usize| Some(plant.table.vertex.rows[plant.recorded.label(u)][plant.found.label(partner(u)?)]);
+    let serial = |tree: &desk::plant::Tree, at: usize| tree.serials.as_ref().map_or(0, |serials| serials[at].number);
+    let vertex = |u: usize| {
+        let v = partner(u)?;
+        let (a, b) = (serial(&plant.recorded, u), serial(&plant.found, v));
+        let weight = plant.table.vertex.rows[plant.recorded.label(u)][plant.found.label(v)];
+        Some(if a != 0 && b != 0 && a != b { X } else { weight })
+    };
     let edge = |edge: &desk::plant::Edge| {
         let [a, b] = edge.ends.map(|end| partner(end.into()));
         Some(plant.table.edge.rows[usize::from(edge.label)][found.edge(a?, b?)?])

@@ -1,6 +1,6 @@
 //! Plants for the tests of certificates, built directly: small ones of the paper, one with names, random ones; the
 //! library over them.
-use desk::plant::{At, Edge, Place, Plant, Table, Tree, Vertex, Weights};
+use desk::plant::{At, Edge, Place, Plant, Serial, Table, Tree, Vertex, Weights};
 use pensummer::{Inputs, Sizes, FORBIDDEN, VERTICES_MOST, WEIGHT_MOST};
 
 pub const X: i32 = FORBIDDEN;
@@ -49,7 +49,13 @@ pub fn tree(labels: &[u8], edges: &[(u8, u8, u8)], names: &[&str]) -> Tree {
     let name = |i: usize| names.get(i).map(|name| name.to_string());
     let vertices = labels.iter().enumerate().map(|(i, &label)| Vertex { label, name: name(i), place: nowhere() });
     let edges = edges.iter().map(|&(a, b, label)| Edge { ends: [a, b], label, text: String::new(), place: nowhere() });
-    Tree { vertices: vertices.collect(), edges: edges.collect(), place: nowhere() }
+    Tree { vertices: vertices.collect(), edges: edges.collect(), serials: None, place: nowhere() }
+}
+
+/// The tree with these serials in its vertex records.
+pub fn with_serials(tree: Tree, serials: &[u32]) -> Tree {
+    assert_eq!(serials.len(), tree.size());
+    Tree { serials: Some(serials.iter().map(|&number| Serial { number, place: nowhere() }).collect()), ..tree }
 }
 
 /// A path by its vertices' labels; every edge has label 0.
@@ -110,7 +116,19 @@ fn random_tree(random: &mut Random, size: usize, degree: usize, labels: [usize; 
     }
     random.shuffle(&mut edges);
     let kinds: Vec<u8> = (0..size).map(|_| random.below(labels[0]) as u8).collect();
-    tree(&kinds, &edges, &[])
+    random_serials(random, tree(&kinds, &edges, &[]))
+}
+
+/// The tree without serials, or with some that are known; none of these stands twice, and many stand in other trees
+/// too.
+fn random_serials(random: &mut Random, tree: Tree) -> Tree {
+    let mut numbers: Vec<u32> = (1..=tree.size() as u32).collect();
+    random.shuffle(&mut numbers);
+    match random.below(4) {
+        0 | 1 => tree,
+        2 => with_serials(tree, &numbers.iter().map(|&number| if random.below(3) == 0 { number } else { 0 }).collect::<Vec<_>>()),
+        _ => with_serials(tree, &numbers.iter().map(|&number| if random.below(6) > 0 { u32::MAX - number } else { 0 }).collect::<Vec<_>>()),
+    }
 }
 
 pub fn random_plant(random: &mut Random, sizes: [usize; 2]) -> Plant {
@@ -128,7 +146,12 @@ fn weight_bytes(mark: u8, weights: &Weights) -> Vec<u8> {
 
 fn tree_bytes(tree: &Tree) -> Vec<u8> {
     let mut bytes = vec![0xB1, 0x01, tree.size() as u8];
-    bytes.extend(tree.vertices.iter().flat_map(|vertex| [0xB1, 0x02, vertex.label]));
+    for (at, vertex) in tree.vertices.iter().enumerate() {
+        match &tree.serials {
+            Some(serials) => bytes.extend([&[0xB1, 0x07, vertex.label][..], &serials[at].number.to_le_bytes()].concat()),
+            None => bytes.extend([0xB1, 0x02, vertex.label]),
+        }
+    }
     bytes.extend(tree.edges.iter().flat_map(|edge| [0xB1, 0x03, edge.ends[0], edge.ends[1], edge.label]));
     bytes
 }

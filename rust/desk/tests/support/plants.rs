@@ -39,7 +39,7 @@ pub fn of_repository(name: &str) -> Vec<u8> {
 /// The examples, each with its name.
 pub fn examples() -> Vec<(&'static str, String)> {
     let text = |name: &str| String::from_utf8(of_repository(&format!("examples/{name}"))).expect("UTF-8");
-    ["cellar.txt", "named.txt", "pool.txt", "small_plant_3.txt"].iter().map(|name| (*name, text(name))).collect()
+    ["cellar.txt", "named.txt", "pool.txt", "serials.txt", "small_plant_3.txt"].iter().map(|name| (*name, text(name))).collect()
 }
 
 /// A row of numbers after a word.

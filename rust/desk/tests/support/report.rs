@@ -4,8 +4,8 @@ use super::json::{line, Value};
 const REPORT: [&str; 8] = ["command", "status", "refusal", "weight", "recorded", "found", "certificate", "sizes"];
 const REFUSAL: [&str; 4] = ["item", "sentence", "place", "reason"];
 const PLACE: [&str; 4] = ["file", "line", "column", "byte"];
-const VERTEX: [&str; 11] =
-    ["vertex", "name", "label", "label_name", "state", "partner", "certain", "otherwise", "weight", "edge", "same_name"];
+const VERTEX: [&str; 12] =
+    ["vertex", "name", "label", "label_name", "serial", "state", "partner", "certain", "otherwise", "weight", "edge", "same_name"];
 const EDGE: [&str; 5] = ["to", "label", "partner_label", "weight", "certain"];
 const CERTIFICATE: [&str; 4] = ["length", "accepted", "mapping", "subproblems"];
 const SIZES: [&str; 4] = ["subproblems", "work", "mapping", "certificate"];
@@ -49,6 +49,7 @@ fn refusal(refusal: &Value) {
 fn vertex(at: usize, vertex: &Value) {
     assert_eq!(vertex.keys(), VERTEX);
     assert_eq!(*vertex.at("vertex"), (at as i64).into());
+    assert!(matches!(vertex.at("serial"), Value::Null | Value::Number(1..=0xFFFF_FFFF)), "{vertex:?}");
     let states = ["kept", "changed", "gone", "new"].map(Value::from);
     let state = states.iter().position(|state| state == vertex.at("state")).unwrap_or_else(|| panic!("{vertex:?}"));
     assert_eq!(*vertex.at("partner") == Value::Null, state > 1, "{vertex:?}");

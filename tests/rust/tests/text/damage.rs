@@ -3,11 +3,12 @@ use pensummer_tests::random::Random;
 
 /// What stands in the way of a reader, between bars.
 const ODD: &[u8] = b"\"|\\|\\\"|#|=|-|:|,|\0|\r|\n|\t| |\x0B|\x7F|\xFF|\xC3|\xED\xA0\x80|\xEF\xBB\xBF|\xC2\x9B|\xE2\x80\xA8|\"a\tb\"|\
-    99999999999999999999|-1|256|-2147483649|0-1|a=0|\"\"|forbidden|\nfound 0\n|\nlabels 1 1\n|\ntree";
+    99999999999999999999|-1|256|-2147483649|0-1|a=0|\"\"|forbidden|\nfound 0\n|\nlabels 1 1\n|\ntree|\
+    \nserials 0 1\n|\nserials 0=7\n|4294967296|serials ";
 
 /// Words of the grammar, and what looks like some, between bars.
 const WORDS: &str = "labels|vertex|edge|vertex-names|edge-names|vertex-default|edge-default|vertex-equal|edge-equal|vertex-pair|edge-pair|\
-    recorded|found|tree|forbidden|0|1|2|00|-5|255|256|4294967296|a|b|a,b|,|P1=0|P2=a|a=1|\"a b\"=0|\"a b\"|0-1|1-0:0|a-P1|P1-P2:a|\
+    recorded|found|tree|serials|\nserials|\nserials 7 8|0=7|a=4294967295|1=4294967296|forbidden|0|1|2|00|-5|255|256|4294967296|a|b|a,b|,|P1=0|P2=a|a=1|\"a b\"=0|\"a b\"|0-1|1-0:0|a-P1|P1-P2:a|\
     \"a b\"-0|1-2:1|=|-|:|\"|\\|#|\"\\\"\"=1|vertex-|edge-x";
 
 /// Damages a text once.
@@ -110,37 +111,49 @@ pub fn salad(random: &mut Random) -> Vec<u8> {
     text.into_bytes()
 }
 
+/// The table and the beginning of a recorded tree.
+const BEGIN: &str = "labels 1 1\nvertex 1\nedge 1\nrecorded a=0 \"b c\"=0\n";
+
+/// What a long text is of, how it begins, and what follows again and again.
+const LONG: [(&str, &str, &str); 24] = [
+    ("blank lines", "", "\n"),
+    ("blanks", "", " \t"),
+    ("comment signs", "", "#"),
+    ("comments", "", "# a\r\n"),
+    ("quotes", "", "\""),
+    ("backslashes in quotes", "recorded \"", "\\"),
+    ("quoted quotes", "recorded \"", "\\\""),
+    ("a digit", "labels ", "1"),
+    ("zeros", "labels ", "0"),
+    ("commas", "labels 1 1\nvertex-names ", ","),
+    ("names", "labels 1 1\nvertex-names ", "a,"),
+    ("weights", "labels 255 1\nvertex ", "1 "),
+    ("edges in a line", BEGIN, "0-1 "),
+    ("edges in lines", BEGIN, "0-1\n"),
+    ("edges by quoted names", BEGIN, "\"b c\"-a:0\n"),
+    ("vertices", BEGIN, "x=0 "),
+    ("minus signs", BEGIN, "-"),
+    ("UTF-8 that ends badly", "labels 1 1\nvertex-names ", "ä\u{10ffff}"),
+    ("no known name", BEGIN, "a-z "),
+    ("lines of names", "labels 1 1\n", "edge-names a\nvertex-names b\n"),
+    ("lines of serials", BEGIN, "serials 0 1\n"),
+    ("lines of serials by quoted names", BEGIN, "serials \"b c\"=7 a=0\n"),
+    ("equals signs", BEGIN, "serials a=0=\n"),
+    ("empty lines of serials", BEGIN, "serials\n"),
+];
+
 /// Texts of nearly `most` bytes, each of much of one thing, with what it is.
 pub fn long_texts(most: usize) -> Vec<(&'static str, Vec<u8>)> {
-    let begin = "labels 1 1\nvertex 1\nedge 1\nrecorded a=0 \"b c\"=0\n";
     let all_names: String = (0..255).map(|name| format!(" n{name:0>9}=0")).collect();
     let labels: Vec<String> = (0..255).map(|label| format!("label {label}")).collect();
     let named = format!("labels 255 1\nvertex-names {}\nvertex-default 1\nedge 1\n", labels.join(","));
-    let kinds: [(&str, &str, &str); 20] = [
-        ("blank lines", "", "\n"),
-        ("blanks", "", " \t"),
-        ("comment signs", "", "#"),
-        ("comments", "", "# a\r\n"),
-        ("quotes", "", "\""),
-        ("backslashes in quotes", "recorded \"", "\\"),
-        ("quoted quotes", "recorded \"", "\\\""),
-        ("a digit", "labels ", "1"),
-        ("zeros", "labels ", "0"),
-        ("commas", "labels 1 1\nvertex-names ", ","),
-        ("names", "labels 1 1\nvertex-names ", "a,"),
-        ("weights", "labels 255 1\nvertex ", "1 "),
-        ("edges in a line", begin, "0-1 "),
-        ("edges in lines", begin, "0-1\n"),
-        ("edges by quoted names", begin, "\"b c\"-a:0\n"),
-        ("vertices", begin, "x=0 "),
-        ("minus signs", begin, "-"),
-        ("UTF-8 that ends badly", "labels 1 1\nvertex-names ", "ä\u{10ffff}"),
-        ("no known name", begin, "a-z "),
-        ("lines of names", "labels 1 1\n", "edge-names a\nvertex-names b\n"),
-    ];
-    let mut texts: Vec<(&str, String, String)> = kinds.iter().map(|&(what, begin, piece)| (what, begin.into(), piece.into())).collect();
+    let mut texts: Vec<(&str, String, String)> = LONG.iter().map(|&(what, begin, piece)| (what, begin.into(), piece.into())).collect();
     let edges = (0..254).map(|at| format!("n{at:0>9}-n{:0>9}\n", at + 1)).collect();
     texts.push(("edges by many names", format!("labels 1 1\nvertex 1\nedge 1\nrecorded{all_names}\n"), edges));
+    let serials: String = (0..255).map(|at| format!(" n{at:0>9}=7")).collect();
+    texts.push(("serials by many names", format!("labels 1 1\nvertex 1\nedge 1\nrecorded{all_names}\nserials"), serials));
+    texts.push(("serials in a line", format!("{BEGIN}serials "), "0 ".into()));
+    texts.push(("the digits of a serial", format!("{BEGIN}serials "), "0".into()));
     let pairs = (0..255).map(|at| format!("vertex-pair \"label 254\" \"label {at}\" 5\n")).collect();
     texts.push(("pairs by names", named, pairs));
     let fill = |begin: String, piece: String| begin.clone() + &piece.repeat((most - begin.len()) / piece.len());

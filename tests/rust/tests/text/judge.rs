@@ -55,7 +55,7 @@ pub fn judge_fault(texts: &[Text], fault: &Fault) {
     assert!(!fault.reason.chars().any(char::is_control), "a control character in a reason: {:?}{}", fault.reason, shown(texts));
 }
 
-/// Every weight, vertex and edge stands where the plant says.
+/// Every weight, vertex, edge and serial stands where the plant says.
 pub fn judge_places(texts: &[Text], plant: &Plant) {
     let lines = Lines::of(texts);
     let at = |place: &Place| lines.at(place).unwrap_or_else(|| panic!("no such place: {place}{}", shown(texts)));
@@ -76,6 +76,11 @@ pub fn judge_places(texts: &[Text], plant: &Plant) {
         }
         for vertex in &tree.vertices {
             assert!(is_vertex(vertex, &at(&vertex.place).iter().collect::<String>()), "the vertex {vertex:?}{}", shown(texts));
+        }
+        for (serial, vertex) in tree.serials.iter().flatten().zip(&tree.vertices) {
+            let digits: String = at(&serial.place).iter().take_while(|c| c.is_ascii_digit()).collect();
+            let left_out = serial.number == 0 && serial.place == vertex.place;
+            assert!(left_out || digits.parse() == Ok(serial.number), "the serial {serial:?}{}", shown(texts));
         }
     }
 }
@@ -110,12 +115,17 @@ pub fn judge_names(texts: &[Text], plant: &Plant) {
     }
 }
 
+/// The serials of a tree that has some in its vertex records.
+pub fn serials(tree: &Tree) -> Option<Vec<u32>> {
+    tree.serials.as_ref().map(|serials| serials.iter().map(|serial| serial.number).collect())
+}
+
 /// What a plant says, apart from where it stands.
 pub fn said(plant: &Plant) -> impl PartialEq + std::fmt::Debug {
     let tree = |tree: &Tree| {
         let vertices: Vec<(u8, Option<String>)> = tree.vertices.iter().map(|vertex| (vertex.label, vertex.name.clone())).collect();
         let edge = |edge: &Edge| (edge.ends, edge.label);
-        (vertices, tree.edges.iter().map(edge).collect::<Vec<_>>())
+        (vertices, tree.edges.iter().map(edge).collect::<Vec<_>>(), serials(tree))
     };
     let (vertex, edge) = (plant.table.vertex.clone(), plant.table.edge.clone());
     ((vertex.rows, vertex.names), (edge.rows, edge.names), tree(&plant.recorded), tree(&plant.found))
@@ -150,7 +160,8 @@ fn judge_bytes(texts: &[Text], plant: &Plant, bytes: &Bytes) {
     let part = |bytes, offset| Part { file: &file, bytes, offset };
     let found_at = parted.table.len() + parted.recorded.len();
     let of_bytes = bytes::read(part(&parted.table, 0), part(&parted.recorded, parted.table.len()), part(&parted.found, found_at))
-        .unwrap_or_else(|fault| panic!("{fault}{}", shown(texts)));
+        .unwrap_or_else(|shape| panic!("item {}: {}{}", shape.item, shape.fault, shown(texts)));
+    assert_eq!([&of_bytes.recorded, &of_bytes.found].map(serials), [&plant.recorded, &plant.found].map(serials), "{}", shown(texts));
     assert_eq!(&Bytes::from(&of_bytes), bytes, "{}", shown(texts));
     assert_eq!(of_bytes.table.vertex.rows, plant.table.vertex.rows);
     let again = read(&[text("printed", &print(&of_bytes))]).unwrap_or_else(|fault| panic!("{fault}{}", shown(texts)));

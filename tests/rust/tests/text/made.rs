@@ -1,6 +1,6 @@
 //! Random plants to be written as text, with the bytes and names that the text must give.
 use pensummer_tests::random::Random;
-use pensummer_tests::reading::{table_bytes, tree_bytes, Inputs, FORBIDDEN, WEIGHT_MOST};
+use pensummer_tests::reading::{table_bytes, Inputs, FORBIDDEN, WEIGHT_MOST};
 
 /// Vertex labels or edge labels.
 pub struct Labels {
@@ -22,6 +22,8 @@ pub struct Tree {
     pub labels: Vec<usize>,
     pub names: Vec<Option<String>>,
     pub edges: Vec<(usize, usize, usize)>,
+    /// Of every vertex, 0 where it is unknown; none if the vertex records have no serials.
+    pub serials: Option<Vec<u32>>,
 }
 
 pub struct Made {
@@ -51,7 +53,7 @@ const CHARACTERS: [char; 34] = [
     '\u{301}', '\u{202e}', '\u{a0}', '\u{feff}', '\u{2028}', '\u{ffff}', '#', ',',
 ];
 /// Words that are no good names, between bars.
-const WORDS: &str = "labels|vertex|edge|names|recorded|found|tree|forbidden|vertex-names|edge-names|0-1|\"|\\\"|null|١|P1";
+const WORDS: &str = "labels|vertex|edge|names|recorded|found|tree|serials|forbidden|vertex-names|edge-names|0-1|\"|\\\"|null|١|P1";
 
 /// A name without blanks at its ends or twice in a row.
 fn name(random: &mut Random, characters: &[char]) -> String {
@@ -136,7 +138,7 @@ impl Tree {
             edges.push(if random.once_in(2) { (u, v, random.below(l)) } else { (v, u, random.below(l)) });
         }
         random.shuffle(&mut edges);
-        Tree { labels: (0..n).map(|_| random.below(k)).collect(), names: vec![None; n], edges }
+        Tree { labels: (0..n).map(|_| random.below(k)).collect(), names: vec![None; n], edges, serials: None }
     }
 
     /// What text can say of a tree, mostly with one thing wrong.
@@ -154,6 +156,43 @@ impl Tree {
             _ => (),
         }
         tree
+    }
+
+    /// No serials, or known and unknown ones. Many stand in other trees too; one stands here twice only in a tree that may be wrong.
+    fn give_serials(&mut self, random: &mut Random, wrong: bool) {
+        let n = self.labels.len();
+        if n == 0 || random.once_in(2) {
+            return;
+        }
+        // a third of them as large as can be
+        let mut numbers: Vec<u32> = (1..=n as u32 + 2).map(|number| if number % 3 == 0 { u32::MAX - number + 3 } else { number }).collect();
+        random.shuffle(&mut numbers);
+        let share = *random.pick(&[0, 2, 3, 4]);
+        let mut serials: Vec<u32> = (0..n).map(|u| if random.below(4) < share { numbers[u] } else { 0 }).collect();
+        if wrong && random.once_in(4) {
+            serials[random.below(n)] = serials[random.below(n)];
+        }
+        self.serials = Some(serials);
+    }
+
+    /// Whether a known serial stands twice.
+    pub fn has_serial_twice(&self) -> bool {
+        let mut known: Vec<u32> = self.serials.iter().flatten().copied().filter(|&serial| serial != 0).collect();
+        known.sort_unstable();
+        known.windows(2).any(|two| two[0] == two[1])
+    }
+
+    /// Its bytes, with vertex records of the kind that it has or of the one without serials.
+    fn bytes(&self, with_serials: bool) -> Vec<u8> {
+        let mut bytes = vec![0xB1, 0x01, self.labels.len() as u8];
+        for (u, &label) in self.labels.iter().enumerate() {
+            match &self.serials {
+                Some(serials) if with_serials => bytes.extend([&[0xB1, 0x07, label as u8][..], &serials[u].to_le_bytes()].concat()),
+                _ => bytes.extend([0xB1, 0x02, label as u8]),
+            }
+        }
+        bytes.extend(self.edges.iter().flat_map(|&(a, b, label)| [0xB1, 0x03, a as u8, b as u8, label as u8]));
+        bytes
     }
 
     fn name_vertices(&mut self, random: &mut Random) {
@@ -205,13 +244,23 @@ impl Made {
         };
         if !old {
             tree.name_vertices(random);
+            tree.give_serials(random, matches!(size, Size::Wrong | Size::Any));
         }
         tree
     }
 
     /// The bytes that the text must give.
     pub fn inputs(&self) -> Inputs {
-        let of = |tree: &Tree| tree_bytes(&tree.labels, &tree.edges);
-        Inputs { table: table_bytes(&self.vertex.rows, &self.edge.rows), recorded: of(&self.trees[0]), found: of(&self.trees[1]) }
+        self.inputs_of(true)
+    }
+
+    /// The bytes of the same plant without its serials.
+    pub fn inputs_without_serials(&self) -> Inputs {
+        self.inputs_of(false)
+    }
+
+    fn inputs_of(&self, serials: bool) -> Inputs {
+        let [recorded, found] = [self.trees[0].bytes(serials), self.trees[1].bytes(serials)];
+        Inputs { table: table_bytes(&self.vertex.rows, &self.edge.rows), recorded, found }
     }
 }

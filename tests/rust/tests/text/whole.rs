@@ -1,7 +1,8 @@
 //! Whole answers of small plants: what is certain, compared with all mappings, and the forms of what is printed.
+use super::serials::Judged;
 use desk::answer::{Answer, Certainty};
-use pensummer_tests::mapping::{is_mapping, weight, NONE};
-use pensummer_tests::reading::{Plant, WEIGHT_MOST};
+use pensummer_tests::mapping::NONE;
+use pensummer_tests::reading::WEIGHT_MOST;
 
 /// Every heaviest mapping, by going through all mappings.
 pub struct Heaviest {
@@ -10,16 +11,16 @@ pub struct Heaviest {
 }
 
 impl Heaviest {
-    pub fn of(plant: &Plant) -> Heaviest {
+    pub fn of(plant: &Judged) -> Heaviest {
         let mut heaviest = Heaviest { weight: i64::MIN, mappings: Vec::new() };
         heaviest.extend(plant, &mut vec![NONE; plant.n()], 0);
         heaviest
     }
 
-    fn extend(&mut self, plant: &Plant, mapping: &mut Vec<u8>, u: usize) {
+    fn extend(&mut self, plant: &Judged, mapping: &mut Vec<u8>, u: usize) {
         if u == plant.n() {
-            if is_mapping(plant, mapping) {
-                self.add(weight(plant, mapping), mapping);
+            if plant.is_mapping(mapping) {
+                self.add(plant.weight(mapping), mapping);
             }
             return;
         }
@@ -83,7 +84,7 @@ fn judge_one(said: Certainty, own: Option<usize>, partners: &[Option<usize>], un
 }
 
 /// Compares an answer with all mappings.
-pub fn judge_certainty(plant: &Plant, answer: &Answer, counts: &mut Said) {
+pub fn judge_certainty(plant: &Judged, answer: &Answer, counts: &mut Said) {
     let heaviest = Heaviest::of(plant);
     assert_eq!(answer.weight, heaviest.weight);
     let own: Vec<u8> = answer.partner.iter().map(|v| v.map_or(NONE, |v| v as u8)).collect();
@@ -101,7 +102,7 @@ pub fn judge_certainty(plant: &Plant, answer: &Answer, counts: &mut Said) {
 }
 
 /// Of a plant of any size: a vertex is unknown only where labels run out or a weight is at its limit.
-pub fn judge_unknown(plant: &Plant, answer: &Answer, counts: &mut Said) {
+pub fn judge_unknown(plant: &Judged, answer: &Answer, counts: &mut Said) {
     let apart = |labels: &[usize], u: usize| {
         let mut others: Vec<usize> = (0..labels.len()).filter(|&x| x != u).map(|x| labels[x]).collect();
         others.sort_unstable();
@@ -109,16 +110,16 @@ pub fn judge_unknown(plant: &Plant, answer: &Answer, counts: &mut Said) {
         others.len() + 1 > 32
     };
     for u in 0..plant.n() {
-        let found_apart = answer.partner[u].map_or(false, |v| apart(&plant.found.labels, v));
+        let found_apart = answer.partner[u].map_or(false, |v| apart(&plant.plant.found.labels, v));
         let limit = answer.partner[u].is_none() && (0..plant.m()).any(|v| plant.pair(u, v) == Some(WEIGHT_MOST));
         let unknown = answer.certain[u] == Certainty::Unknown;
         counts.unknown += usize::from(unknown);
-        assert!(!unknown || limit || found_apart || apart(&plant.recorded.labels, u), "recorded {u} can be known");
+        assert!(!unknown || limit || found_apart || apart(&plant.plant.recorded.labels, u), "recorded {u} can be known");
     }
     for v in (0..plant.m()).filter(|&v| answer.back[v].is_none()) {
         let limit = (0..plant.n()).any(|u| plant.pair(u, v) == Some(WEIGHT_MOST));
         let unknown = answer.found_certain[v] == Certainty::Unknown;
         counts.unknown += usize::from(unknown);
-        assert!(!unknown || limit || apart(&plant.found.labels, v), "found {v} can be known");
+        assert!(!unknown || limit || apart(&plant.plant.found.labels, v), "found {v} can be known");
     }
 }

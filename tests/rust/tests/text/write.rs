@@ -220,7 +220,36 @@ impl Writer<'_> {
         format!("{ends}:{}", self.label(&made.edge, label))
     }
 
-    /// The tree's line with its vertices; the last ones may follow, beside the edges, if they all have names.
+    /// The lines of serials: of all vertices in order, or of those that are known, and some others, by their names.
+    fn serial_lines(&mut self, tree: &Tree) -> Vec<Vec<String>> {
+        let named = self.random.once_in(2);
+        let mut words = Vec::new();
+        for (u, &serial) in tree.serials.iter().flatten().enumerate() {
+            let number = self.number(serial as usize);
+            if !named {
+                words.push(number);
+            } else if serial != 0 || self.random.once_in(3) {
+                words.push(format!("{}={number}", self.edge_end(tree, u)));
+            }
+        }
+        if named {
+            self.random.shuffle(&mut words);
+        }
+        if tree.serials.is_some() && words.is_empty() {
+            words.push(format!("{}=0", self.edge_end(tree, 0)));
+        }
+        let mut lines: Vec<Vec<String>> = Vec::new();
+        for word in words {
+            match lines.last_mut() {
+                Some(line) if !self.random.once_in(6) => line.push(word),
+                _ => lines.push(vec!["serials".into(), word]),
+            }
+        }
+        lines
+    }
+
+    /// The tree's line with its vertices; the last ones may follow, beside the edges, if they all have names. Serials stand anywhere after
+    /// it.
     fn tree(&mut self, made: &Made, word: &str, tree: &Tree) {
         let named = tree.names.iter().rev().take_while(|name| name.is_some()).count();
         let on_line = tree.labels.len() - self.random.below(named + 1);
@@ -229,6 +258,7 @@ impl Writer<'_> {
             first.push(self.vertex(made, tree, u));
         }
         self.line(&first);
+        let mut serials = self.serial_lines(tree).into_iter().peekable();
         let mut vertices = (on_line..tree.labels.len()).collect::<Vec<_>>().into_iter().peekable();
         let mut edges = tree.edges.iter().peekable();
         let mut words = Vec::new();
@@ -240,10 +270,14 @@ impl Writer<'_> {
             if self.random.once_in(4) && !words.is_empty() {
                 self.tree_line(std::mem::take(&mut words));
             }
+            if words.is_empty() && serials.peek().is_some() && self.random.once_in(3) {
+                self.line(&serials.next().unwrap_or_default());
+            }
         }
         if !words.is_empty() {
             self.tree_line(words);
         }
+        serials.for_each(|line| self.line(&line));
     }
 
     /// A further line of a tree. An edge that looks like the word of a line of names does not begin it: whether it may is tested apart.
