@@ -30,12 +30,12 @@ recordedVertices = 4 * vertexLimit
 abbrev pub foundVertices : ℕ
 foundVertices = 9 * vertexLimit
 
--- of vertex x of the tree whose such rows begin at `first`: its label, and its serial in four bytes
+-- of vertex x of the tree whose such rows begin at `first`: its label, and its serial in the last four of eight bytes
 abbrev pub labelIn : List (List ℕ) → ℕ → ℕ → ℕ
 labelIn plan first x = getD (getD plan (first + x) []) 0 0
 
 abbrev pub serialIn : List (List ℕ) → ℕ → ℕ → ℕ
-serialIn plan first x = wordAt (getD plan (first + x) []) 1
+serialIn plan first x = wordAt (getD plan (first + x) []) 4
 
 -- recorded vertex u: how many children it has, its place in the postorder, the vertex that stands u-th in the postorder, its parent, and the label
 -- of the edge to the parent

@@ -61,7 +61,7 @@ fn serial(plan: &Plan, first: usize, x: u8) -> u32
     ensures { λ r. ⌜ r ≡ serialIn (now (plan .entry)) first x ⌝ }
 {
     let row = plan[first + (x as usize)];
-    integers::unsigned_of(row[1], row[2], row[3], row[4])
+    integers::unsigned_of(row[4], row[5], row[6], row[7])
 }
 
 // How many children recorded vertex u has.

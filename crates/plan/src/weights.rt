@@ -21,8 +21,11 @@ fn serials_apart(plan: &Plan, u: u8, v: u8) -> bool
     ensures { λ r. ⌜ r ≡ apart (serialIn (now (plan .entry)) recordedVertices u) (serialIn (now (plan .entry)) foundVertices v) ⌝ }
 {
     let a = serial(plan, Blocks::RECORDED_VERTEX, u);
+    if a == 0 {
+        return false;
+    }
     let b = serial(plan, Blocks::FOUND_VERTEX, v);
-    (a != 0) & ((b != 0) & (a != b))
+    (b != 0) & (a != b)
 }
 
 // The weight of the pair of recorded vertex u and found vertex v, by what the plan says of each: forbidden if their serials are apart, else that of

@@ -220,14 +220,14 @@ found-more {f} {rows} {labels} {starts} N old plan v lv P k back head t B e0 e1 
 -- the row of a label and a serial
 pub record VertexRow (label own : ℕ) (row : List ℕ) : Type 0 where
   pub label-is : getD row 0 0 ≡ label
-  pub serial-is : wordAt row 1 ≡ own
+  pub serial-is : wordAt row 4 ≡ own
 
-pub vertex-row : (row : List ℕ) (label own : ℕ) → length row ≡ degreeLimit → VertexRow label own (putWord (set row 0 label) 1 own)
+pub vertex-row : (row : List ℕ) (label own : ℕ) → length row ≡ degreeLimit → VertexRow label own (putWord (set row 0 label) 4 own)
 vertex-row row label own e =
     let n : length (set row 0 label) ≡ degreeLimit = length-set row 0 label ∙ e in
     record {
-      label-is = word-other (set row 0 label) 1 own 0 (inl (omega arith)) ∙ getD-set-same row 0 label 0 (omega arith);
-      serial-is = word-put (set row 0 label) 1 own (omega arith);
+      label-is = word-other (set row 0 label) 4 own 0 (inl (omega arith)) ∙ getD-set-same row 0 label 0 (omega arith);
+      serial-is = word-put (set row 0 label) 4 own (omega arith);
     }
 
 vertex-same : (s : List ℕ) (plan plan′ : List (List ℕ)) (first x : ℕ) → getD plan′ (first + x) [] ≡ getD plan (first + x) [] → VertexIn s plan first x → VertexIn s plan′ first x

@@ -267,7 +267,7 @@ fn vertex_row(label: u8, serial: u32) -> Row
 {
     let mut row = [0u8; Limits::PLACES];
     row[0] = label;
-    put_word(&mut row, 1, serial);
+    put_word(&mut row, 4, serial);
     row
 }
 
