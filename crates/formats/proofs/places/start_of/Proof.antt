@@ -1,12 +1,12 @@
--- `edge_start` meets its contract. Assumes nothing.
+-- `start_of` meets its contract. Assumes nothing.
 use mathlib.Core.Path.{_≡_, sym, _∙_}
 use mathlib.Core.Bool.{true, false}
 use Rattle.model.specs.Tree.{withSerials}
 use Rattle.trees.specs.Accepted.{size-with, size-without, long-with, long-without, long-some}
 use native.Mathlib.Omega.{arith}
 use borrow.Author.Needs.{needs}
-use Rattle.formats.proofs.places.edge_start.Statement.{statement}
-use Rattle.formats.proofs.places.edge_start.Tie as tie
+use Rattle.formats.proofs.places.start_of.Statement.{statement}
+use Rattle.formats.proofs.places.start_of.Tie as tie
 
 with-serials-requires : tie.Need-with-serials-requires
 with-serials-requires c κs = omega (arith, long-some (c .before .pre .0))
@@ -23,18 +23,6 @@ mul-result-2 c = search needs
 add-result-2 : tie.Need-add-result-2
 add-result-2 c = search needs
 
-mul-result-3 : tie.Need-mul-result-3
-mul-result-3 c = search needs
-
-add-result-3 : tie.Need-add-result-3
-add-result-3 c = search needs
-
-mul-result-4 : tie.Need-mul-result-4
-mul-result-4 c = search needs
-
-add-result-4 : tie.Need-add-result-4
-add-result-4 c = search needs
-
 returns : tie.Need-returns
 returns c =
     let w = c .before .before .before .pre .0 in
@@ -49,8 +37,8 @@ returns-2 c =
     let l = long-without w e in
     (rw (size-without _ e), omega arith)
 
-pub edge-start-spec : {M : Type 1} → statement M
-edge-start-spec =
+pub start-of-spec : {M : Type 1} → statement M
+start-of-spec =
     tie.close
     (tie.spec
     with-serials-requires
@@ -58,9 +46,5 @@ edge-start-spec =
     add-result
     mul-result-2
     add-result-2
-    mul-result-3
-    add-result-3
-    mul-result-4
-    add-result-4
     returns
     returns-2)
