@@ -1,6 +1,6 @@
 //! Where a tree's records stand, by the kind of its vertex records.
 use crate::marks::is_mark;
-ghost use Prim.Native.Nat.{_+_, _*_, _-_, _≤_, _<_};
+ghost use Prim.Native.Nat.{_+_, _≤_, _<_};
 ghost use lib.ListN.{length};
 ghost use mathlib.Core.Path.{_≡_};
 ghost use Rattle.model.specs.Tree.{withSerials, vertexStart, edgeStart, treeSize};
@@ -28,11 +28,11 @@ pub(crate) fn tree_size(s: &[u8], n: u8) -> usize
     }
 }
 
-// Where the record of vertex v starts; for v = n, where the first edge's does. Behind it stand the vertex records from v on and all edges.
-fn start_of(s: &[u8], n: usize, v: usize) -> usize
+// Where the record of vertex v starts.
+pub(crate) fn vertex_start(s: &[u8], n: usize, v: usize) -> usize
     requires { ⌜ Whole (now s) n ⌝ }
-    requires { ⌜ v ≤ n ⌝ }
-    ensures { λ r. ⌜ (r ≡ vertexStart (now (s .entry)) v) × (r + 3 * (n - v) + 5 * (n - 1) ≤ length (now (s .entry))) ⌝ }
+    requires { ⌜ v < n ⌝ }
+    ensures { λ r. ⌜ (r ≡ vertexStart (now (s .entry)) v) × (r + 3 ≤ length (now (s .entry))) ⌝ }
 {
     if with_serials(s) {
         3 + 7 * v
@@ -41,20 +41,11 @@ fn start_of(s: &[u8], n: usize, v: usize) -> usize
     }
 }
 
-// Where the record of vertex v starts.
-pub(crate) fn vertex_start(s: &[u8], n: usize, v: usize) -> usize
-    requires { ⌜ Whole (now s) n ⌝ }
-    requires { ⌜ v < n ⌝ }
-    ensures { λ r. ⌜ (r ≡ vertexStart (now (s .entry)) v) × (r + 3 ≤ length (now (s .entry))) ⌝ }
-{
-    start_of(s, n, v)
-}
-
-// Where the record of edge j starts.
+// Where the record of edge j starts: the n - 1 edges are the last records, whatever the kind of those before them.
 pub(crate) fn edge_start(s: &[u8], n: usize, j: usize) -> usize
     requires { ⌜ Whole (now s) n ⌝ }
     requires { ⌜ j + 1 < n ⌝ }
     ensures { λ r. ⌜ (r ≡ edgeStart (now (s .entry)) n j) × (r + 5 ≤ length (now (s .entry))) ⌝ }
 {
-    start_of(s, n, n) + 5 * j
+    s.len() - 5 * (n - 1 - j)
 }

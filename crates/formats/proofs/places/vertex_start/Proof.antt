@@ -1,12 +1,12 @@
--- `start_of` meets its contract. Assumes nothing.
+-- `vertex_start` meets its contract. Assumes nothing.
 use mathlib.Core.Path.{_≡_, sym, _∙_}
 use mathlib.Core.Bool.{true, false}
 use Rattle.model.specs.Tree.{withSerials}
 use Rattle.trees.specs.Accepted.{size-with, size-without, long-with, long-without, long-some}
 use native.Mathlib.Omega.{arith}
 use borrow.Author.Needs.{needs}
-use Rattle.formats.proofs.places.start_of.Statement.{statement}
-use Rattle.formats.proofs.places.start_of.Tie as tie
+use Rattle.formats.proofs.places.vertex_start.Statement.{statement}
+use Rattle.formats.proofs.places.vertex_start.Tie as tie
 
 with-serials-requires : tie.Need-with-serials-requires
 with-serials-requires c κs = omega (arith, long-some (c .before .pre .0))
@@ -37,8 +37,8 @@ returns-2 c =
     let l = long-without w e in
     (rw (size-without _ e), omega arith)
 
-pub start-of-spec : {M : Type 1} → statement M
-start-of-spec =
+pub vertex-start-spec : {M : Type 1} → statement M
+vertex-start-spec =
     tie.close
     (tie.spec
     with-serials-requires
