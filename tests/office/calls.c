@@ -11,7 +11,7 @@ static const uint8_t table[] = {0xB1, 4, 2, 1, 0xB1, 5, 5, 0, 0, 0, 0xFE, 0xFF, 
 static const uint8_t recorded[] = {0xB1, 1, 2, 0xB1, 2, 0, 0xB1, 2, 1, 0xB1, 3, 0, 1, 0};
 static const uint8_t found[] = {0xB1, 1, 2, 0xB1, 2, 1, 0xB1, 2, 0, 0xB1, 3, 0, 1, 0};
 
-/* The same with serials: 7 and 8, 9 and 7; and both with one serial twice. Vertex 0 on 1 is the only pair that they leave. */
+/* The same with serials, 7 and 8, 9 and 7, which leave vertex 0 on 1 as the only pair; and a tree in which one stands twice. */
 static const uint8_t serials[] = {0xB1, 1, 2, 0xB1, 7, 0, 7, 0, 0, 0, 0xB1, 7, 1, 8, 0, 0, 0, 0xB1, 3, 0, 1, 0};
 static const uint8_t others[] = {0xB1, 1, 2, 0xB1, 7, 1, 9, 0, 0, 0, 0xB1, 7, 0, 7, 0, 0, 0, 0xB1, 3, 0, 1, 0};
 static const uint8_t twice[] = {0xB1, 1, 2, 0xB1, 7, 0, 7, 0, 0, 0, 0xB1, 7, 1, 7, 0, 0, 0, 0xB1, 3, 0, 1, 0};

@@ -1,4 +1,4 @@
-//! Readers over bytes: why a table or a tree is refused (items 1 to 12, 25 and 26), what stands in them, and a tree's neighbours.
+//! Readers over bytes: why a table or a tree is refused (items 1 to 12, 25 and 26), and what stands in them.
 pub mod bytes;
 pub mod inputs;
 pub mod marks;

@@ -1,4 +1,5 @@
 //! Serial numbers, and item 25: a known one stands twice.
+use crate::places::vertex_start;
 use crate::places::with_serials;
 use integers::word_at;
 use model::Limits;
@@ -16,7 +17,7 @@ pub fn serial_of(s: &[u8], n: usize, v: usize) -> u32
     ensures { λ r. ⌜ r ≡ serial (now (s .entry)) v ⌝ }
 {
     if with_serials(s) {
-        word_at(s, 6 + 7 * v)
+        word_at(s, vertex_start(s, n, v) + 3)
     } else {
         0
     }

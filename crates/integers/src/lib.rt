@@ -1,4 +1,4 @@
-//! Leaf functions on 32-bit integers: bytes to a weight and back, the tests of a weight, and the arithmetic of one subproblem. The lesser of two lengths.
+//! Leaf functions on 32-bit integers: bytes to a weight or a serial and back, the tests of a weight, and the arithmetic of one subproblem. The lesser of two lengths.
 ghost use mathlib.Core.Path.{_≡_};
 ghost use mathlib.Core.Bool.{true};
 ghost use Prim.Native.Nat.{_+_, _≤_, _<_, _^_, min};

@@ -20,7 +20,7 @@ use Rattle.model.specs.Jobs.{countOk, recordOk, sameTrees, workOk, isLeft, star
 use Rattle.trees.specs.Items.{Numbered, end, more, numbered-append, first-here, first-then}
 use Rattle.formats.specs.Inputs.{input-numbered}
 
--- 1 to 15: what an advance and a finish test before they look at the work numbers
+-- 1 to 15, 25 and 26: what an advance and a finish test before they look at the work numbers
 unfoldable pub earlyItem : JobRecord → List ℕ → List ℕ → List ℕ → List ℤ → ℕ
 earlyItem j table recorded found work = firstOf (startItems table recorded found work ++ (item 14 (not (recordOk j)) ∷ item 15 (not (sameTrees j recorded found)) ∷ []))
 

@@ -63,7 +63,7 @@ fn same_trees(job: JobRecord, recorded: &[u8], found: &[u8]) -> bool
     n_same & m_same
 }
 
-// The first of the items 1 to 15 that applies, 0 for none.
+// The first of the items 1 to 15, 25 and 26 that applies in the order tested, 0 for none.
 pub fn early_item(job: JobRecord, table: &[u8], recorded: &[u8], found: &[u8], work: &[i32]) -> u8
     ensures { λ r. ⌜ r ≡ earlyItem job (now (table .entry)) (now (recorded .entry)) (now (found .entry)) (now (work .entry)) ⌝ }
 {

@@ -1,4 +1,4 @@
--- The plan of two trees: what a call looks up in them, as rows of a number for each place: ten blocks of a row for each vertex, the first five
+-- The plan of two trees: what a call looks up in them, as rows of eight bytes: ten blocks of a row for each vertex, the first five
 -- of the recorded tree and the others of the found tree. Only this file, `src/` and `planning` know where a number stands; all else goes by the laws
 -- of `Planned`. Assumes nothing.
 use mathlib.Core.Path.{_≡_}

@@ -1,4 +1,4 @@
-//! The plan of two trees: what a call looks up in them, as rows of a byte for each place, made once (crates/planning). A recorded half and a found half, each of
+//! The plan of two trees: what a call looks up in them, as rows of eight bytes, made once (crates/planning). A recorded half and a found half, each of
 //! its own tree alone. `specs/Plan.antt` says where a number stands and what it is; nothing above knows where. Beside it the weights of pairs
 //! (`weights`) and the numbers that follow from the vertex counts (`counts`).
 pub mod counts;
@@ -37,7 +37,7 @@ impl Blocks {
     pub const ALL: usize = 10 * Limits::ROWS;
 }
 
-// The plan: rows of a place for each of a vertex's children or neighbours.
+// The plan: rows of a place for each of a vertex's children or neighbours, or of what belongs to the vertex itself.
 pub type Plan = [[u8; Limits::PLACES]; Blocks::ALL];
 
 // A byte as an index.

@@ -1,4 +1,4 @@
--- The trees that items 3 to 12 let pass: their rooting, their edges one by one, and the instance of the theory that two of them make with
+-- The trees that items 3 to 12, 25 and 26 let pass: their rooting, their edges one by one, and the instance of the theory that two of them make with
 -- any weights. Assumes nothing.
 use mathlib.Core.Path.{_≡_, refl, sym, ap, _∙_, subst}
 use mathlib.Core.Logic.{inl, inr, ⊎-elim, _≢_}

@@ -1,4 +1,4 @@
--- `advance_core` refuses by the first of the items 1 to 15 that applies, or makes the plan and goes on. Assumes nothing.
+-- `advance_core` refuses by the first of the items 1 to 15, 25 and 26 that applies, or makes the plan and goes on. Assumes nothing.
 use Rattle.formats.specs.Inputs.{input-sound}
 use mathlib.Core.Path.{_≡_, sym, _∙_, refl}
 use Rattle.model.specs.Calls.{inputItem}
@@ -9,7 +9,7 @@ use borrow.Author.Needs.{needs}
 use Rattle.jobs.proofs.advance_core.Statement.{statement}
 use Rattle.jobs.proofs.advance_core.Tie as tie
 
--- no item of 1 to 15 applies
+-- no item of 1 to 15, 25 and 26 applies
 zero : (c : tie.Else1) → let a = c .before .before .before .before .before .before .args in earlyItem (a .job) (a .table .now) (a .recorded .now) (a .found .now) (a .work .now) ≡ 0
 zero c = let z : c .before .early-item .result ≡ 0 = search needs in sym (c .before .early-item .ensures) ∙ z
 

@@ -1,4 +1,4 @@
--- `finish` refuses by the first of the items 1 to 15 that applies, or makes the plan and goes on. Assumes nothing.
+-- `finish` refuses by the first of the items 1 to 15, 25 and 26 that applies, or makes the plan and goes on. Assumes nothing.
 use Rattle.formats.specs.Inputs.{input-sound}
 use mathlib.Core.Path.{_≡_, refl, sym, ap, _∙_}
 use Rattle.model.specs.declared.MatchAnswer.the-variants.{Refused}
@@ -9,7 +9,7 @@ use borrow.Author.Needs.{needs}
 use Rattle.jobs.proofs.finish.Statement.{statement}
 use Rattle.jobs.proofs.finish.Tie as tie
 
--- no item of 1 to 15 applies
+-- no item of 1 to 15, 25 and 26 applies
 zero : (c : tie.Else1) → let a = c .before .before .before .before .before .before .args in earlyItem (a .job) (a .table .now) (a .recorded .now) (a .found .now) (a .work .now) ≡ 0
 zero c = let z : c .before .early-item .result ≡ 0 = search needs in sym (c .before .early-item .ensures) ∙ z
 
