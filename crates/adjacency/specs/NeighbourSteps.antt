@@ -1,4 +1,4 @@
--- The steps of the loops that find neighbours and the labels of the edges to them. Assumes nothing.
+-- The steps of the loops that find neighbours and what is seen of the edges to them. Assumes nothing.
 use mathlib.Core.Path.{_≡_, refl, sym, ap, _∙_}
 use mathlib.Core.Logic.{_⊎_, inl, inr, ⊎-elim}
 use mathlib.Core.List.{List, []}
@@ -9,14 +9,15 @@ use native.Mathlib.Numerals.{add-one}
 use lib.ListN.{length, getD, set, replicate, take, length-take, length-set, List·getD-append, getD-replicate}
 use lib.Seq.{getD-take, getD-append-add, getD-set-same, getD-set-other, ext-getD}
 use lib.Dec.{eqb}
-use borrow.Author.Tests.{eq-eqb, ne-eqb}
-use Rattle.foundations.specs.Tests.{less?, same?, or-assoc, or-false, eqb-same, is-false}
+use borrow.Author.Tests.{eqb-true, eq-eqb, ne-eqb}
+use Rattle.foundations.specs.Tests.{less?, same?, and-split, or-assoc, or-false, eqb-same, is-false}
 use Rattle.foundations.specs.Lists.{below, below-ext, places, tab, tab-ext, getD-tab, length-tab}
 use Rattle.foundations.specs.Members.{getD-mem, mem-below, at-once}
 use Rattle.model.specs.Limits.{vertexLimit, degreeLimit, noVertex}
 use Rattle.model.specs.Tree.{count, endA, endB, edgeLabelAt}
-use Rattle.model.specs.Graph.{joins, joinedBy, neighbours, inPlaces, edgeBefore, edgeLabel, neighbourTable, labelOfPlace, edgeLabelTable}
+use Rattle.model.specs.Graph.{joins, joinedBy, neighbours, inPlaces, edgeBefore, edgeLabel, upstream, neighbourTable}
 use Rattle.trees.specs.Accepted.{Ends}
+use Rattle.trees.specs.Directions.{fromSecond, seen, seenInPlace, seenTable}
 use Rattle.trees.specs.Neighbours.{joined-says, adjacent-low, once-neighbours}
 use Rattle.adjacency.specs.Insertion.{putIn, put-below}
 use Rattle.formats.specs.TreeItems.{set-tab}
@@ -104,97 +105,112 @@ once-row s v w N e lv lw i j hi hj ei ej = pick (place-is (neighbours s v) i hi)
     pick (inr q) (inl b) = absurd (omega (arith, here j ej, b))
     pick (inr q) (inr b) = at-once (neighbours s v) i j (once-neighbours s v) (q .0) (b .0) (sym (q .1) ∙ here i ei ∙ sym (here j ej) ∙ b .1)
 
--- ---- labels in the neighbours' places
+-- ---- edges in the neighbours' places
 
--- l in the place of w, or nowhere
-abbrev pub labelIn : ℕ → ℕ → List ℕ → List ℕ → ℕ → ℕ
-labelIn w l names labels i = cond (eqb w (getD names i 0)) l (getD labels i 0)
+-- c in the place of w, or nowhere
+abbrev pub edgeIn : ℕ → ℕ → List ℕ → List ℕ → ℕ → ℕ
+edgeIn w c names seen i = cond (eqb w (getD names i 0)) c (getD seen i 0)
 
-pub label-here : (w l i : ℕ) (names labels : List ℕ) → length labels ≡ degreeLimit → i < degreeLimit → Once w names → getD names i 0 ≡ w → set labels i l ≡ tab (labelIn w l names labels) degreeLimit
-label-here w l i names labels n h o e = ext-getD 0 (set labels i l) (tab (labelIn w l names labels) degreeLimit) (length-set labels i l ∙ n ∙ sym (length-tab (labelIn w l names labels) degreeLimit)) (λ k b. at k (omega (arith, length-set labels i l)))
+pub edge-here : (w c i : ℕ) (names seen : List ℕ) → length seen ≡ degreeLimit → i < degreeLimit → Once w names → getD names i 0 ≡ w → set seen i c ≡ tab (edgeIn w c names seen) degreeLimit
+edge-here w c i names seen n h o e = ext-getD 0 (set seen i c) (tab (edgeIn w c names seen) degreeLimit) (length-set seen i c ∙ n ∙ sym (length-tab (edgeIn w c names seen) degreeLimit)) (λ k b. at k (omega (arith, length-set seen i c)))
   where
-    at : (k : ℕ) → k < degreeLimit → getD (set labels i l) k 0 ≡ getD (tab (labelIn w l names labels) degreeLimit) k 0
+    at : (k : ℕ) → k < degreeLimit → getD (set seen i c) k 0 ≡ getD (tab (edgeIn w c names seen) degreeLimit) k 0
     at k b = ⊎-elim
-        (λ q. rw (q, getD-set-same labels i l 0 (omega arith), getD-tab (labelIn w l names labels) degreeLimit i 0 h, eq-eqb w (getD names i 0) (sym e)))
-        (λ q. rw (getD-set-other labels i k l 0 q, getD-tab (labelIn w l names labels) degreeLimit k 0 b, ne-eqb w (getD names k 0) (λ x. q (o k i b h (sym x) e))))
+        (λ q. rw (q, getD-set-same seen i c 0 (omega arith), getD-tab (edgeIn w c names seen) degreeLimit i 0 h, eq-eqb w (getD names i 0) (sym e)))
+        (λ q. rw (getD-set-other seen i k c 0 q, getD-tab (edgeIn w c names seen) degreeLimit k 0 b, ne-eqb w (getD names k 0) (λ x. q (o k i b h (sym x) e))))
         (same? k i)
 
-pub label-nowhere : (w l i : ℕ) (names labels : List ℕ) → length labels ≡ degreeLimit → degreeLimit ≤ i → ((k : ℕ) → k < i → getD names k 0 ≡ w → ⊥) → labels ≡ tab (labelIn w l names labels) degreeLimit
-label-nowhere w l i names labels n h none = ext-getD 0 labels (tab (labelIn w l names labels) degreeLimit) (n ∙ sym (length-tab (labelIn w l names labels) degreeLimit)) (λ k b. sym (getD-tab (labelIn w l names labels) degreeLimit k 0 (omega arith) ∙ rw (ne-eqb w (getD names k 0) (λ x. none k (omega arith) (sym x)))))
+pub edge-nowhere : (w c i : ℕ) (names seen : List ℕ) → length seen ≡ degreeLimit → degreeLimit ≤ i → ((k : ℕ) → k < i → getD names k 0 ≡ w → ⊥) → seen ≡ tab (edgeIn w c names seen) degreeLimit
+edge-nowhere w c i names seen n h none = ext-getD 0 seen (tab (edgeIn w c names seen) degreeLimit) (n ∙ sym (length-tab (edgeIn w c names seen) degreeLimit)) (λ k b. sym (getD-tab (edgeIn w c names seen) degreeLimit k 0 (omega arith) ∙ rw (ne-eqb w (getD names k 0) (λ x. none k (omega arith) (sym x)))))
 
-abbrev pub labelRows : List (List ℕ) → (ℕ → ℕ → ℕ) → List (List ℕ)
-labelRows N f = tab (λ v. tab (λ i. f v (getD (getD N v []) i 0)) degreeLimit) vertexLimit
+abbrev pub edgeRows : List (List ℕ) → (ℕ → ℕ → ℕ) → List (List ℕ)
+edgeRows N f = tab (λ v. tab (λ i. f v (getD (getD N v []) i 0)) degreeLimit) vertexLimit
 
--- the label of the last of the first k edges that joins v and w, 255 for none
-unfoldable pub labelSoFar : List ℕ → ℕ → ℕ → ℕ → ℕ → ℕ
-labelSoFar s n v w zero = noVertex
-labelSoFar s n v w (suc k) = cond (joins (endA s n k) (endB s n k) v w) (edgeLabelAt s n k) (labelSoFar s n v w k)
+-- edge k seen from v, which is one of its ends
+abbrev seenOf : List ℕ → ℕ → ℕ → ℕ → ℕ
+seenOf s n v k = cond (eqb (endA s n k) v) (edgeLabelAt s n k) (fromSecond (edgeLabelAt s n k))
 
--- l put into the place of b in the row of a
-labels-more : (N t : List (List ℕ)) (f : ℕ → ℕ → ℕ) (a b l : ℕ) (x : List ℕ) → a < vertexLimit → t ≡ labelRows N f → x ≡ tab (labelIn b l (getD N a []) (getD t a [])) degreeLimit
-    → set t a x ≡ labelRows N (λ v w. cond (eqb a v && eqb b w) l (f v w))
-labels-more N t f a b l x la e h =
-    rw e (set-tab (λ v. tab (λ i. f v (getD (getD N v []) i 0)) degreeLimit) (λ v. tab (λ i. cond (eqb a v && eqb b (getD (getD N v []) i 0)) l (f v (getD (getD N v []) i 0))) degreeLimit) vertexLimit a x [] la
-    (h ∙ tab-ext (labelIn b l (getD N a []) (getD t a [])) (λ i. cond (eqb a a && eqb b (getD (getD N a []) i 0)) l (f a (getD (getD N a []) i 0))) degreeLimit (λ i li. rw (eqb-same a) (ap (λ z. cond (eqb b (getD (getD N a []) i 0)) l z) (at i li))))
-    (λ v lv ne. tab-ext (λ i. f v (getD (getD N v []) i 0)) (λ i. cond (eqb a v && eqb b (getD (getD N v []) i 0)) l (f v (getD (getD N v []) i 0))) degreeLimit (λ i li. rw (ne-eqb a v (λ q. ne (sym q))))))
+-- the last of the first k edges that joins v and w, seen from v, 255 for none
+unfoldable pub seenSoFar : List ℕ → ℕ → ℕ → ℕ → ℕ → ℕ
+seenSoFar s n v w zero = noVertex
+seenSoFar s n v w (suc k) = cond (joins (endA s n k) (endB s n k) v w) (seenOf s n v k) (seenSoFar s n v w k)
+
+-- c put into the place of b in the row of a
+edges-more : (N t : List (List ℕ)) (f : ℕ → ℕ → ℕ) (a b c : ℕ) (x : List ℕ) → a < vertexLimit → t ≡ edgeRows N f → x ≡ tab (edgeIn b c (getD N a []) (getD t a [])) degreeLimit
+    → set t a x ≡ edgeRows N (λ v w. cond (eqb a v && eqb b w) c (f v w))
+edges-more N t f a b c x la e h =
+    rw e (set-tab (λ v. tab (λ i. f v (getD (getD N v []) i 0)) degreeLimit) (λ v. tab (λ i. cond (eqb a v && eqb b (getD (getD N v []) i 0)) c (f v (getD (getD N v []) i 0))) degreeLimit) vertexLimit a x [] la
+    (h ∙ tab-ext (edgeIn b c (getD N a []) (getD t a [])) (λ i. cond (eqb a a && eqb b (getD (getD N a []) i 0)) c (f a (getD (getD N a []) i 0))) degreeLimit (λ i li. rw (eqb-same a) (ap (λ z. cond (eqb b (getD (getD N a []) i 0)) c z) (at i li))))
+    (λ v lv ne. tab-ext (λ i. f v (getD (getD N v []) i 0)) (λ i. cond (eqb a v && eqb b (getD (getD N v []) i 0)) c (f v (getD (getD N v []) i 0))) degreeLimit (λ i li. rw (ne-eqb a v (λ q. ne (sym q))))))
   where
     at : (i : ℕ) → i < degreeLimit → getD (getD t a []) i 0 ≡ f a (getD (getD N a []) i 0)
     at i li = ap (λ (z : List (List ℕ)). getD (getD z a []) i 0) e ∙ ap (λ (z : List ℕ). getD z i 0) (getD-tab (λ v. tab (λ i. f v (getD (getD N v []) i 0)) degreeLimit) vertexLimit a [] la) ∙ getD-tab (λ i. f a (getD (getD N a []) i 0)) degreeLimit i 0 li
 
-twice : (t u : Bool) (l x : ℕ) → cond u l (cond t l x) ≡ cond (t || u) l x
-twice true true l x = refl
-twice true false l x = refl
-twice false u l x = refl
+-- an edge from a to b does not run from b to a too, unless they are the same
+one-way : (a b v w : ℕ) → eqb a v ≡ true → eqb b w ≡ false → (eqb b v && eqb a w) ≡ false
+one-way a b v w e f = is-false _ (λ h.
+    let q = and-split (eqb b v) (eqb a w) h in
+    true≢false (sym (eq-eqb b w (eqb-true b v (q .0) ∙ sym (eqb-true a v e) ∙ eqb-true a w (q .1))) ∙ f))
 
-pub labelled-rows : (s : List ℕ) (n j a b l : ℕ) (N t : List (List ℕ)) (x y : List ℕ) → a < vertexLimit → b < vertexLimit → a ≡ endA s n j → b ≡ endB s n j → l ≡ edgeLabelAt s n j → t ≡ labelRows N (λ v w. labelSoFar s n v w j)
-    → x ≡ tab (labelIn b l (getD N a []) (getD t a [])) degreeLimit → y ≡ tab (labelIn a l (getD N b []) (getD (set t a x) b [])) degreeLimit
-    → set (set t a x) b y ≡ labelRows N (λ v w. labelSoFar s n v w (j + 1))
-unfolding labelSoFar joins
-labelled-rows s n j a b l N t x y la lb ea eb el h hx hy =
-    labels-more N (set t a x) (λ v w. cond (eqb a v && eqb b w) l (labelSoFar s n v w j)) b a l y lb (labels-more N t (λ v w. labelSoFar s n v w j) a b l x la h hx) hy
-    ∙ tab-ext (λ v. tab (λ i. both v (getD (getD N v []) i 0)) degreeLimit) (λ v. tab (λ i. labelSoFar s n v (getD (getD N v []) i 0) (j + 1)) degreeLimit) vertexLimit
-    (λ v lv. tab-ext (λ i. both v (getD (getD N v []) i 0)) (λ i. labelSoFar s n v (getD (getD N v []) i 0) (j + 1)) degreeLimit (λ i li. step v (getD (getD N v []) i 0)))
+-- seen from the second end, then from the first
+both-ways : (a b v w l c x : ℕ) → cond (eqb a v && eqb b w) l (cond (eqb b v && eqb a w) c x) ≡ cond ((eqb a v && eqb b w) || (eqb b v && eqb a w)) (cond (eqb a v) l c) x
+both-ways a b v w l c x = go (eqb a v) (eqb b w) refl refl
+  where
+    go : (p q : Bool) → eqb a v ≡ p → eqb b w ≡ q → cond (p && q) l (cond (eqb b v && eqb a w) c x) ≡ cond ((p && q) || (eqb b v && eqb a w)) (cond p l c) x
+    go true true e f = refl
+    go true false e f = rw (one-way a b v w e f)
+    go false q e f = refl
+
+pub seen-rows : (s : List ℕ) (n j a b l c : ℕ) (N t : List (List ℕ)) (x y : List ℕ) → a < vertexLimit → b < vertexLimit → a ≡ endA s n j → b ≡ endB s n j → l ≡ edgeLabelAt s n j → c ≡ fromSecond l
+    → t ≡ edgeRows N (λ v w. seenSoFar s n v w j)
+    → y ≡ tab (edgeIn a c (getD N b []) (getD t b [])) degreeLimit → x ≡ tab (edgeIn b l (getD N a []) (getD (set t b y) a [])) degreeLimit
+    → set (set t b y) a x ≡ edgeRows N (λ v w. seenSoFar s n v w (j + 1))
+unfolding seenSoFar joins
+seen-rows s n j a b l c N t x y la lb ea eb el ec h hy hx =
+    edges-more N (set t b y) (λ v w. cond (eqb b v && eqb a w) c (seenSoFar s n v w j)) a b l x la (edges-more N t (λ v w. seenSoFar s n v w j) b a c y lb h hy) hx
+    ∙ tab-ext (λ v. tab (λ i. both v (getD (getD N v []) i 0)) degreeLimit) (λ v. tab (λ i. seenSoFar s n v (getD (getD N v []) i 0) (j + 1)) degreeLimit) vertexLimit
+    (λ v lv. tab-ext (λ i. both v (getD (getD N v []) i 0)) (λ i. seenSoFar s n v (getD (getD N v []) i 0) (j + 1)) degreeLimit (λ i li. step v (getD (getD N v []) i 0)))
   where
     both : ℕ → ℕ → ℕ
-    both v w = cond (eqb b v && eqb a w) l (cond (eqb a v && eqb b w) l (labelSoFar s n v w j))
+    both v w = cond (eqb a v && eqb b w) l (cond (eqb b v && eqb a w) c (seenSoFar s n v w j))
 
-    step : (v w : ℕ) → both v w ≡ labelSoFar s n v w (j + 1)
-    step v w = twice (eqb a v && eqb b w) (eqb b v && eqb a w) l (labelSoFar s n v w j) ∙ rw (add-one, ea, eb, el)
+    step : (v w : ℕ) → both v w ≡ seenSoFar s n v w (j + 1)
+    step v w = both-ways a b v w l c (seenSoFar s n v w j) ∙ rw (add-one, ec, ea, eb, el)
 
-pub no-labels : (s : List ℕ) (n : ℕ) (N : List (List ℕ)) → replicate vertexLimit (replicate degreeLimit noVertex) ≡ labelRows N (λ v w. labelSoFar s n v w 0)
-unfolding labelSoFar tab
-no-labels s n N = refl
+pub no-edges : (s : List ℕ) (n : ℕ) (N : List (List ℕ)) → replicate vertexLimit (replicate degreeLimit noVertex) ≡ edgeRows N (λ v w. seenSoFar s n v w 0)
+unfolding seenSoFar tab
+no-edges s n N = refl
 
--- the label found is that of the edge
-label-joined : (s : List ℕ) (n v w k : ℕ) → joinedBy s n v w k ≡ true → labelSoFar s n v w k ≡ edgeLabelAt s n (edgeBefore s n v w k)
-unfolding joinedBy labelSoFar edgeBefore
-label-joined s n v w zero h = absurd (true≢false (sym h))
-label-joined s n v w (suc k) h = step (joins (endA s n k) (endB s n k) v w) refl (label-joined s n v w k)
+-- what is found is what is seen of the edge
+seen-joined : (s : List ℕ) (n v w k : ℕ) → joinedBy s n v w k ≡ true → seenSoFar s n v w k ≡ seenOf s n v (edgeBefore s n v w k)
+unfolding joinedBy seenSoFar edgeBefore
+seen-joined s n v w zero h = absurd (true≢false (sym h))
+seen-joined s n v w (suc k) h = step (joins (endA s n k) (endB s n k) v w) refl (seen-joined s n v w k)
   where
-    step : (t : Bool) → joins (endA s n k) (endB s n k) v w ≡ t → (joinedBy s n v w k ≡ true → labelSoFar s n v w k ≡ edgeLabelAt s n (edgeBefore s n v w k))
-        → cond t (edgeLabelAt s n k) (labelSoFar s n v w k) ≡ edgeLabelAt s n (cond t k (edgeBefore s n v w k))
+    step : (t : Bool) → joins (endA s n k) (endB s n k) v w ≡ t → (joinedBy s n v w k ≡ true → seenSoFar s n v w k ≡ seenOf s n v (edgeBefore s n v w k))
+        → cond t (seenOf s n v k) (seenSoFar s n v w k) ≡ seenOf s n v (cond t k (edgeBefore s n v w k))
     step true e r = refl
     step false e r = r (sym (or-false (joinedBy s n v w k)) ∙ (rw e at h))
 
-label-apart : (s : List ℕ) (n v w k : ℕ) → joinedBy s n v w k ≡ false → labelSoFar s n v w k ≡ noVertex
-unfolding joinedBy labelSoFar
-label-apart s n v w zero h = refl
-label-apart s n v w (suc k) h = step (joinedBy s n v w k) (joins (endA s n k) (endB s n k) v w) (label-apart s n v w k) refl h
+seen-apart : (s : List ℕ) (n v w k : ℕ) → joinedBy s n v w k ≡ false → seenSoFar s n v w k ≡ noVertex
+unfolding joinedBy seenSoFar
+seen-apart s n v w zero h = refl
+seen-apart s n v w (suc k) h = step (joinedBy s n v w k) (joins (endA s n k) (endB s n k) v w) (seen-apart s n v w k) refl h
   where
-    step : (t u : Bool) → (joinedBy s n v w k ≡ false → labelSoFar s n v w k ≡ noVertex) → joinedBy s n v w k ≡ t → (t || u) ≡ false → cond u (edgeLabelAt s n k) (labelSoFar s n v w k) ≡ noVertex
+    step : (t u : Bool) → (joinedBy s n v w k ≡ false → seenSoFar s n v w k ≡ noVertex) → joinedBy s n v w k ≡ t → (t || u) ≡ false → cond u (seenOf s n v k) (seenSoFar s n v w k) ≡ noVertex
     step true u r e q = absurd (true≢false q)
     step false true r e q = absurd (true≢false q)
     step false false r e q = r e
 
-pub labels-end : (s : List ℕ) (n j : ℕ) (N t : List (List ℕ)) → Ends s (count s) → N ≡ neighbourTable s → n ≡ count s → j ≡ n - 1 → t ≡ labelRows N (λ v w. labelSoFar s n v w j) → t ≡ edgeLabelTable s
-unfolding edgeLabelTable neighbourTable neighbours
-labels-end s n j N t ends eN en ej h = h ∙ ap (λ (k : ℕ). labelRows N (λ v w. labelSoFar s n v w k)) ej ∙ ap (λ (k : ℕ). labelRows N (λ v w. labelSoFar s k v w (k - 1))) en
-    ∙ tab-ext (λ v. tab (λ i. labelSoFar s (count s) v (getD (getD N v []) i 0) (count s - 1)) degreeLimit) (λ v. tab (λ i. labelOfPlace s v (getD (inPlaces (neighbours s v)) i 0)) degreeLimit) vertexLimit
-    (λ v lv. tab-ext (λ i. labelSoFar s (count s) v (getD (getD N v []) i 0) (count s - 1)) (λ i. labelOfPlace s v (getD (inPlaces (neighbours s v)) i 0)) degreeLimit (λ i li. ap (λ (z : List ℕ). labelSoFar s (count s) v (getD z i 0) (count s - 1)) (row v lv) ∙ at v (getD (inPlaces (neighbours s v)) i 0) (place-says (λ w. joinedBy s (count s) v w (count s - 1)) (count s) i li)))
+pub edges-end : (s : List ℕ) (n j : ℕ) (N t : List (List ℕ)) → Ends s (count s) → N ≡ neighbourTable s → n ≡ count s → j ≡ n - 1 → t ≡ edgeRows N (λ v w. seenSoFar s n v w j) → t ≡ seenTable s
+unfolding seenTable neighbourTable neighbours
+edges-end s n j N t ends eN en ej h = h ∙ ap (λ (k : ℕ). edgeRows N (λ v w. seenSoFar s n v w k)) ej ∙ ap (λ (k : ℕ). edgeRows N (λ v w. seenSoFar s k v w (k - 1))) en
+    ∙ tab-ext (λ v. tab (λ i. seenSoFar s (count s) v (getD (getD N v []) i 0) (count s - 1)) degreeLimit) (λ v. tab (λ i. seenInPlace s v (getD (inPlaces (neighbours s v)) i 0)) degreeLimit) vertexLimit
+    (λ v lv. tab-ext (λ i. seenSoFar s (count s) v (getD (getD N v []) i 0) (count s - 1)) (λ i. seenInPlace s v (getD (inPlaces (neighbours s v)) i 0)) degreeLimit (λ i li. ap (λ (z : List ℕ). seenSoFar s (count s) v (getD z i 0) (count s - 1)) (row v lv) ∙ at v (getD (inPlaces (neighbours s v)) i 0) (place-says (λ w. joinedBy s (count s) v w (count s - 1)) (count s) i li)))
   where
     row : (v : ℕ) → v < vertexLimit → getD N v [] ≡ inPlaces (neighbours s v)
     row v lv = ap (λ (z : List (List ℕ)). getD z v []) eN ∙ getD-tab (λ x. inPlaces (neighbours s x)) vertexLimit v [] lv
 
-    at : (v w : ℕ) → (w ≡ noVertex) ⊎ (joinedBy s (count s) v w (count s - 1) ≡ true) → labelSoFar s (count s) v w (count s - 1) ≡ labelOfPlace s v w
-    at v w (inl e) = unfold labelOfPlace in rw (eq-eqb w noVertex e) (label-apart s (count s) v w (count s - 1) (is-false (joinedBy s (count s) v w (count s - 1)) (λ q. let a = adjacent-low s ends v w (joined-says s (count s) v w (count s - 1) q) in omega (arith, a .1, ends .few))))
-    at v w (inr q) = let a = adjacent-low s ends v w (joined-says s (count s) v w (count s - 1) q) in unfold labelOfPlace edgeLabel in rw (ne-eqb w noVertex (λ e. omega (arith, a .1, ends .few))) (label-joined s (count s) v w (count s - 1) q)
+    at : (v w : ℕ) → (w ≡ noVertex) ⊎ (joinedBy s (count s) v w (count s - 1) ≡ true) → seenSoFar s (count s) v w (count s - 1) ≡ seenInPlace s v w
+    at v w (inl e) = unfold seenInPlace in rw (eq-eqb w noVertex e) (seen-apart s (count s) v w (count s - 1) (is-false (joinedBy s (count s) v w (count s - 1)) (λ q. let a = adjacent-low s ends v w (joined-says s (count s) v w (count s - 1) q) in omega (arith, a .1, ends .few))))
+    at v w (inr q) = let a = adjacent-low s ends v w (joined-says s (count s) v w (count s - 1) q) in unfold seenInPlace seen upstream edgeLabel in rw (ne-eqb w noVertex (λ e. omega (arith, a .1, ends .few))) (seen-joined s (count s) v w (count s - 1) q)

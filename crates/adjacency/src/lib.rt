@@ -1,4 +1,4 @@
-//! Neighbours as a row of places for each vertex, and in the same places the labels of the edges to them.
+//! Neighbours as a row of places for each vertex, and in the same places what is seen of the edges to them: label and direction in one number.
 use formats::tree::edge_label_at;
 use formats::tree::end_a;
 use formats::tree::end_b;
@@ -6,16 +6,17 @@ use formats::tree::vertex_count;
 use model::Limits;
 use model::PlaceTable;
 use model::Row;
-ghost use Prim.Native.Nat.{min};
+ghost use Prim.Native.Nat.{_<_, min};
 ghost use lib.ListN.{replicate};
 ghost use mathlib.Core.Path.{_≡_};
 ghost use Rattle.foundations.specs.Lists.{tab};
-ghost use Rattle.model.specs.Limits.{vertexLimit, degreeLimit, noVertex};
+ghost use Rattle.model.specs.Limits.{edgeLabelLimit, vertexLimit, degreeLimit, noVertex};
 ghost use Rattle.model.specs.Tree.{count};
-ghost use Rattle.model.specs.Graph.{neighbourTable, edgeLabelTable};
-ghost use Rattle.trees.specs.Accepted.{Ends};
+ghost use Rattle.model.specs.Graph.{neighbourTable};
+ghost use Rattle.trees.specs.Accepted.{Ends, Sound};
+ghost use Rattle.trees.specs.Directions.{fromSecond, seenTable};
 ghost use Rattle.adjacency.specs.Insertion.{carried, putIn};
-ghost use Rattle.adjacency.specs.NeighbourSteps.{Once, labelIn};
+ghost use Rattle.adjacency.specs.NeighbourSteps.{Once, edgeIn};
 
 // The lesser of what a place held and what is carried to it stays.
 fn stays(x: u8, c: u8) -> u8
@@ -75,16 +76,16 @@ pub fn neighbour_table(s: &[u8]) -> PlaceTable
     t
 }
 
-// The labels in a row's places, with l in the place of w, which has one at the most.
-fn label_in(labels: Row, names: Row, w: u8, l: u8) -> Row
+// What is seen of edges in a row's places, with c in the place of w, which has one at the most.
+fn edge_in(edges: Row, names: Row, w: u8, c: u8) -> Row
     requires { ⌜ Once w names ⌝ }
-    ensures { λ r. ⌜ r ≡ tab (labelIn w l names labels) degreeLimit ⌝ }
+    ensures { λ r. ⌜ r ≡ tab (edgeIn w c names edges) degreeLimit ⌝ }
 {
-    let mut r = labels;
+    let mut r = edges;
     let mut i: usize = 0;
     while i < Limits::PLACES {
         if names[i] == w {
-            r[i] = l;
+            r[i] = c;
             return r;
         }
         i += 1;
@@ -92,12 +93,23 @@ fn label_in(labels: Row, names: Row, w: u8, l: u8) -> Row
     r
 }
 
-// The labels of the edges to every vertex's neighbours, in the neighbours' places, into a table of free places.
-pub fn edge_label_table(t: &mut PlaceTable, s: &[u8], neighbours: &PlaceTable)
+// What is seen of an edge with label l from its end written second; from the first it is the label.
+fn from_second(l: u8) -> u8
+    requires { ⌜ l < edgeLabelLimit ⌝ }
+    ensures { λ r. ⌜ r ≡ fromSecond l ⌝ }
+{
+    if l < Limits::DIRECTED {
+        return l;
+    }
+    l + Limits::EDGE_LABELS
+}
+
+// The edges to every vertex's neighbours as seen from the vertex, in the neighbours' places, into a table of free places.
+pub fn edge_table(t: &mut PlaceTable, s: &[u8], neighbours: &PlaceTable)
     requires { ⌜ now t ≡ replicate vertexLimit (replicate degreeLimit noVertex) ⌝ }
-    requires { ⌜ Ends (now s) (count (now s)) ⌝ }
+    requires { ⌜ Sound (now s) ⌝ }
     requires { ⌜ now neighbours ≡ neighbourTable (now s) ⌝ }
-    ensures { λ _. ⌜ now (t .exit) ≡ edgeLabelTable (now (s .entry)) ⌝ }
+    ensures { λ _. ⌜ now (t .exit) ≡ seenTable (now (s .entry)) ⌝ }
 {
     let n = vertex_count(s);
     let mut j: usize = 0;
@@ -105,10 +117,11 @@ pub fn edge_label_table(t: &mut PlaceTable, s: &[u8], neighbours: &PlaceTable)
         let a = end_a(s, n, j);
         let b = end_b(s, n, j);
         let l = edge_label_at(s, n, j);
-        let p = label_in(t[a as usize], neighbours[a as usize], b, l);
-        t[a as usize] = p;
-        let q = label_in(t[b as usize], neighbours[b as usize], a, l);
+        let c = from_second(l);
+        let q = edge_in(t[b as usize], neighbours[b as usize], a, c);
         t[b as usize] = q;
+        let p = edge_in(t[a as usize], neighbours[a as usize], b, l);
+        t[a as usize] = p;
         j += 1;
     }
 }

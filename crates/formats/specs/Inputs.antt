@@ -53,5 +53,10 @@ input-accepted table r f h =
     let b : treeItem 3 25 r (vertexLabels table) (edgeLabels table) ≡ 0 = ⊎-elim (λ e. e) (λ n. sym (input-recorded table r f a n) ∙ h) (same? (treeItem 3 25 r (vertexLabels table) (edgeLabels table)) 0) in
     record { weights = table-passed table a; recorded = tree-passed 3 25 r _ _ (omega arith) (omega arith) b; found = tree-passed 8 26 f _ _ (omega arith) (omega arith) (sym (input-found table r f a b) ∙ h) }
 
+pub accepted-sound : {table r f : List ℕ} → Accepted table r f → Sound r × Sound f
+accepted-sound A =
+    let few = A .weights .sized .edge-few in
+    (record { K = _; L = _; few-labels = few; passed = A .recorded }, record { K = _; L = _; few-labels = few; passed = A .found })
+
 pub input-sound : (table r f : List ℕ) → inputItem table r f ≡ 0 → Sound r × Sound f
-input-sound table r f h = let A = input-accepted table r f h in (record { K = _; L = _; passed = A .recorded }, record { K = _; L = _; passed = A .found })
+input-sound table r f h = accepted-sound (input-accepted table r f h)

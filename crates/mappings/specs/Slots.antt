@@ -9,10 +9,11 @@ use Rattle.foundations.specs.Members.{place, mem-occ, place-at, place-low, getD
 use Rattle.foundations.specs.Tests.{less?}
 use Rattle.model.specs.Limits.{vertexLimit, degreeLimit}
 use Rattle.model.specs.Tree.{count}
-use Rattle.model.specs.Graph.{neighbours, edgeLabel}
+use Rattle.model.specs.Graph.{neighbours}
+use Rattle.trees.specs.Directions.{seen, EdgeSeen, edge-seen}
 use Rattle.trees.specs.Neighbours.{Adjacent, mem-adjacent, adjacent-mem, few-neighbours}
 use Rattle.plan.specs.Plan.{degreeIn, neighbourEdgeIn, FoundIn, Ready}
-use Rattle.plan.specs.Numbers.{SlotAt, ready-accepted}
+use Rattle.plan.specs.Numbers.{SlotAt, ready-accepted, ready-sound}
 
 -- found vertex x, and the place of y among its neighbours
 module _ {table r f : List ℕ} {plan : List (List ℕ)} (N : Ready table r f plan) {x : ℕ} (lx : x < count f) where
@@ -49,6 +50,6 @@ module _ {table r f : List ℕ} {plan : List (List ℕ)} (N : Ready table r f pl
       pub slot-adjacent : Adjacent f x y
       slot-adjacent = subst (λ (z : ℕ). Adjacent f x z) is (mem-adjacent f x (getD (neighbours f x) (c - 1) 0) (getD-mem (neighbours f x) (c - 1) low) .1)
 
-      -- and its label is that of the edge to it
-      pub slot-label : neighbourEdgeIn plan x (c - 1) ≡ edgeLabel f x y
-      slot-label = F .edge (c - 1) low ∙ ap (edgeLabel f x) is
+      -- and in its place stands the edge to it
+      pub slot-edge : EdgeSeen f x y (neighbourEdgeIn plan x (c - 1))
+      slot-edge = edge-seen f (ready-sound N) x y slot-adjacent (neighbourEdgeIn plan x (c - 1)) (F .edge (c - 1) low ∙ ap (seen f x) is)

@@ -23,13 +23,14 @@ use Rattle.model.specs.Order.{parent}
 use Rattle.model.specs.Pairs.{vertexPair, edgePair}
 use Rattle.model.specs.Mapping.{partner, mapped, allowed, parentMapped, vertexOk, edgeOk, isTop, mappingOk}
 use Rattle.trees.specs.Accepted.{Sound}
+use Rattle.trees.specs.Directions.{labelSeen, EdgeSeen, edge-seen, known-seen, pair-swap}
 use Rattle.trees.specs.Neighbours.{Adjacent, adjacent-low, adjacent-back, joined-says, says-joined}
 use Rattle.trees.specs.Rooted.{up-edge, parent-low, root-parent}
 use Rattle.formats.specs.Inputs.{Accepted}
 use Rattle.plan.specs.Plan.{parentIn, parentEdgeIn, neighbourEdgeIn, Ready}
 use Rattle.plan.specs.Numbers.{SlotAt, ready-accepted, ready-recorded}
-use Rattle.plan.specs.Pairs.{EdgePair, label-known, pair-swap}
-use Rattle.mappings.specs.Slots.{slot-some, slot-adjacent, slot-label}
+use Rattle.plan.specs.Pairs.{EdgePair}
+use Rattle.mappings.specs.Slots.{slot-some, slot-adjacent, slot-edge}
 
 -- ---- weights
 
@@ -116,15 +117,18 @@ module _ {table r f : List ℕ} {plan : List (List ℕ)} (N : Ready table r f pl
         adjacent : Adjacent f b a
         adjacent = slot-adjacent N lb S h
 
-        pub between-known : (parentEdgeIn plan u < edgeLabels table) × (neighbourEdgeIn plan b (c - 1) < edgeLabels table)
-        between-known = (
-          rw (N .planned .recorded u lu .above-edge nu) (label-known r _ _ (A .recorded) u (parent r u) (up-edge r (A .recorded .ends) (A .recorded .tree) u lu nu)),
-          rw (slot-label N lb S h) (label-known f _ _ (A .found) b a adjacent),
-        )
+        joined-above : Adjacent r u (parent r u)
+        joined-above = up-edge r (A .recorded .ends) (A .recorded .tree) u lu nu
+
+        above-seen : EdgeSeen r u (parent r u) (parentEdgeIn plan u)
+        above-seen = edge-seen r (ready-recorded N) u (parent r u) joined-above (parentEdgeIn plan u) (N .planned .recorded u lu .above-edge nu)
+
+        pub between-known : (labelSeen (parentEdgeIn plan u) < edgeLabels table) × (labelSeen (neighbourEdgeIn plan b (c - 1)) < edgeLabels table)
+        between-known = (known-seen (A .recorded) joined-above above-seen, known-seen (A .found) adjacent (slot-edge N lb S h))
 
         pub between-some : (w : ℤ) (t : Bool) → EdgePair table (parentEdgeIn plan u) (neighbourEdgeIn plan b (c - 1)) w → t ≡ isForbidden w → not t ≡ between?
         between-some w t E e =
-            let p : edgePair table r f (parent r u) u a b ≡ weighed w = pair-swap table r f (parent r u) u a b ∙ E .is r f u (parent r u) b a (N .planned .recorded u lu .above-edge nu) (slot-label N lb S h) in
+            let p : edgePair table r f (parent r u) u a b ≡ weighed w = pair-swap table r f (parent r u) u a b ∙ E .is r f u (parent r u) b a above-seen (slot-edge N lb S h) in
             pair-allowed _ w t p e ∙ sym (ap (λ (x : Bool). x && allowed (edgePair table r f (parent r u) u a b)) (says-joined f (count f) a b (edges f) (adjacent-back f b a adjacent)))
 
 -- the test of u and its parent w: h and a say whether they are mapped

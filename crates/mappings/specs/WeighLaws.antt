@@ -14,18 +14,18 @@ use borrow.Author.Tests.{eq-eqb, ne-eqb}
 use Rattle.foundations.specs.Int.{up, dn, int, plus, canon}
 use Rattle.foundations.specs.Sums.{sumℤ, sumℤ-more, pick}
 use Rattle.foundations.specs.Tests.{and-both, and-false}
-use Rattle.model.specs.Graph.{edges, joined, edgeLabel}
+use Rattle.model.specs.Graph.{edges, joined}
 use Rattle.model.specs.Limits.{noVertex, weightLimit, partLimit, ceiling}
 use Rattle.model.specs.Mapping.{partner, mapped, IsMapping, num, vertexPairs, edgeTerm, edgePairs, weight}
 use Rattle.model.specs.Pairs.{vertexPair, edgePair}
 use Rattle.model.specs.Table.{edgeLabels}
 use Rattle.model.specs.Tree.{count, endA, endB, edgeLabelAt}
 use Rattle.model.specs.Weights.{isForbidden, Weight, none, some, weighed}
-use Rattle.trees.specs.Accepted.{edge-known}
-use Rattle.trees.specs.Neighbours.{Adjacent, joined-says, says-joined, edge-is}
-use Rattle.formats.specs.Inputs.{Accepted}
+use Rattle.trees.specs.Directions.{labelSeen, EdgeSeen, edge-seen, known-seen, seen-first}
+use Rattle.trees.specs.Neighbours.{Adjacent, joined-says, says-joined}
+use Rattle.formats.specs.Inputs.{Accepted, accepted-sound}
 use Rattle.subtrees.specs.ValueRange.{vertex-range, edge-range}
-use Rattle.plan.specs.Pairs.{VertexPair, EdgePair, label-known}
+use Rattle.plan.specs.Pairs.{VertexPair, EdgePair}
 
 -- what the sum is taken over: inputs that pass, and bytes that begin with a mapping
 pub record Ground (table r f p : List ℕ) : Type 0 where
@@ -152,25 +152,27 @@ module _ (table r f p : List ℕ) (G : Ground table r f p) where
       pub a-low : a < count f
       a-low = inside x a (low .0) ea na
 
-      label-recorded : edgeLabel r x y ≡ edgeLabelAt r (count r) j
-      unfolding edgeLabel
-      label-recorded = ap (edgeLabelAt r (count r)) (edge-is r (A .recorded .tree) j x y (omega arith) (inl (refl, refl)))
+      joins-ends : Adjacent r x y
+      joins-ends = (j, omega arith, inl (refl, refl))
 
-      pub edge-labels : (k : ℕ) → k ≡ edgeLabel f a b → (edgeLabelAt r (count r) j < edgeLabels table) × (k < edgeLabels table)
-      edge-labels k e = (edge-known r _ _ j (A .recorded) (omega arith), rw e (label-known f _ _ (A .found) a b adjacent))
+      label-seen : EdgeSeen r x y (edgeLabelAt r (count r) j)
+      label-seen = edge-seen r (accepted-sound A .0) x y joins-ends (edgeLabelAt r (count r) j) (sym (seen-first r (A .recorded .tree) j (omega arith)))
 
-      pub edge-some : (k : ℕ) (z : ℤ) → k ≡ edgeLabel f a b → EdgePair table (edgeLabelAt r (count r) j) k z → SumTo 1 (edgeTerm table r f front x y) z
+      pub edge-labels : (k : ℕ) → EdgeSeen f a b k → (labelSeen (edgeLabelAt r (count r) j) < edgeLabels table) × (labelSeen k < edgeLabels table)
+      edge-labels k e = (known-seen (A .recorded) joins-ends label-seen, known-seen (A .found) adjacent e)
+
+      pub edge-some : (k : ℕ) (z : ℤ) → EdgeSeen f a b k → EdgePair table (edgeLabelAt r (count r) j) k z → SumTo 1 (edgeTerm table r f front x y) z
       edge-some k z e E =
           let oa = on x a (low .0) ea na in
           let ob = on y b (low .1) eb nb in
           let g : a ≡ partner front x = ea ∙ byte-is x (low .0) in
           let h : b ≡ partner front y = eb ∙ byte-is y (low .1) in
-          let m : edgePair table r f x y a b ≡ some z = number (E .is r f x y a b (sym label-recorded) e)
-          (λ n. G .mapping .edgeAllowed x y oa ob (says-joined r (count r) x y (edges r) (j, omega arith, inl (refl, refl)))
+          let m : edgePair table r f x y a b ≡ some z = number (E .is r f x y a b label-seen e)
+          (λ n. G .mapping .edgeAllowed x y oa ob (says-joined r (count r) x y (edges r) joins-ends)
           (subst (λ (i : ℕ). edgePair table r f x y i (partner front y) ≡ none) g (subst (λ (i : ℕ). edgePair table r f x y a i ≡ none) h n))) in
           subst (λ (c : Bool). SumTo 1 (pick c (num (edgePair table r f x y (partner front x) (partner front y)))) z) (sym (and-both (mapped front x) (mapped front y) (is-mapped x a (low .0) ea na) (is-mapped y b (low .1) eb nb)))
           (subst (λ (i : ℕ). SumTo 1 (num (edgePair table r f x y i (partner front y))) z) g (subst (λ (i : ℕ). SumTo 1 (num (edgePair table r f x y a i)) z) h
-          (term _ z m (edge-range table r f A x y a b (j, omega arith, inl (refl, refl)) adjacent z m))))
+          (term _ z m (edge-range table r f A x y a b joins-ends adjacent z m))))
 
 -- ---- the whole
 

@@ -1,12 +1,11 @@
--- A tree as a graph: which vertices are joined, neighbours in eight places, the edge between two vertices.
--- Paper 01, "Bytes of a table and a layout" (lines, neighbours).
+-- A tree as a graph: which vertices are joined, neighbours in eight places, the edge between two vertices and which way it runs.
+-- Paper 01, "Bytes of a table and a layout" (lines, neighbours); paper 02, [6].
 use mathlib.Core.List.{List}
 use Prim.Native.Nat.{ℕ, zero, suc, _-_}
 use mathlib.Core.Bool.{Bool, false, _&&_, _||_, cond}
-use lib.ListN.{getD}
-use lib.Dec.{eqb}
+use lib.Dec.{eqb, leb}
 use Rattle.foundations.specs.Lists.{tab, below, places}
-use Rattle.model.specs.Limits.{vertexLimit, degreeLimit, noVertex}
+use Rattle.model.specs.Limits.{directedFrom, vertexLimit, degreeLimit, noVertex}
 use Rattle.model.specs.Tree.{count, endA, endB, edgeLabelAt}
 
 -- the number of edges
@@ -41,6 +40,14 @@ edgeOf s v w = edgeBefore s (count s) v w (edges s)
 unfoldable pub edgeLabel : List ℕ → ℕ → ℕ → ℕ
 edgeLabel s v w = edgeLabelAt s (count s) (edgeOf s v w)
 
+-- an edge with this label is directed (the paper's flow line): it runs from one of its ends, upstream, to the other
+unfoldable pub directed : ℕ → Bool
+directed l = leb directedFrom l
+
+-- where the edge that joins v and w is directed, v is upstream: "the first written end"
+unfoldable pub upstream : List ℕ → ℕ → ℕ → Bool
+upstream s v w = eqb (endA s (count s) (edgeOf s v w)) v
+
 -- ---- neighbours are kept as eight places for each of 64 vertices, of trees that are not refused
 
 -- a list's first eight, as many as there are places, then 255
@@ -49,10 +56,3 @@ inPlaces l = places degreeLimit noVertex l
 
 unfoldable pub neighbourTable : List ℕ → List (List ℕ)
 neighbourTable s = tab (λ v. inPlaces (neighbours s v)) vertexLimit
-
--- in the same places the label of the edge to that neighbour, and 255 in a free place
-unfoldable pub labelOfPlace : List ℕ → ℕ → ℕ → ℕ
-labelOfPlace s v w = cond (eqb w noVertex) noVertex (edgeLabel s v w)
-
-unfoldable pub edgeLabelTable : List ℕ → List (List ℕ)
-edgeLabelTable s = tab (λ v. tab (λ i. labelOfPlace s v (getD (inPlaces (neighbours s v)) i 0)) degreeLimit) vertexLimit

@@ -21,6 +21,10 @@ vertexLabelLimit = 32
 abbrev pub edgeLabelLimit : ℕ
 edgeLabelLimit = 8
 
+-- edge labels from here on are directed: the paper's flow lines, line kinds 4 to 7. Paper 02, [6]
+abbrev pub directedFrom : ℕ
+directedFrom = 4
+
 abbrev pub vertexLimit : ℕ
 vertexLimit = 64
 

@@ -3,7 +3,7 @@
 ghost use mathlib.Core.Path.{_≡_};
 ghost use lib.IntN.{pos};
 ghost use Rattle.model.specs.Jobs.{freshRecord, totalLimit};
-ghost use Rattle.model.specs.Limits.{weightLimit, forbidden, ceiling, vertexLabelLimit, edgeLabelLimit, vertexLimit, degreeLimit, noVertex, prefixLimit, pairLimit, subproblemLimit};
+ghost use Rattle.model.specs.Limits.{weightLimit, forbidden, ceiling, vertexLabelLimit, edgeLabelLimit, directedFrom, vertexLimit, degreeLimit, noVertex, prefixLimit, pairLimit, subproblemLimit};
 
 // The numbers that the papers fix, and what follows from them. The definitions have the same in specs/Limits.antt (`weights` and `sizes` below).
 pub struct Limits {}
@@ -19,6 +19,8 @@ impl Limits {
     pub const VERTEX_LABELS: u8 = 32;
 
     pub const EDGE_LABELS: u8 = 8;
+    // Edge labels from here on are directed (line kinds of flow lines).
+    pub const DIRECTED: u8 = 4;
 
     pub const VERTICES: u8 = 64;
 
@@ -142,6 +144,7 @@ fn weights()
 fn sizes()
     ensures { λ _. do ⌜ (← ⟦Limits::VERTEX_LABELS⟧ .exit) ≡ vertexLabelLimit ⌝ }
     ensures { λ _. do ⌜ (← ⟦Limits::EDGE_LABELS⟧ .exit) ≡ edgeLabelLimit ⌝ }
+    ensures { λ _. do ⌜ (← ⟦Limits::DIRECTED⟧ .exit) ≡ directedFrom ⌝ }
     ensures { λ _. do ⌜ (← ⟦Limits::VERTICES⟧ .exit) ≡ vertexLimit ⌝ }
     ensures { λ _. do ⌜ (← ⟦Limits::DEGREE⟧ .exit) ≡ degreeLimit ⌝ }
     ensures { λ _. do ⌜ (← ⟦Limits::NONE⟧ .exit) ≡ noVertex ⌝ }

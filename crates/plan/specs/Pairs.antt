@@ -1,14 +1,15 @@
 -- The weights of pairs of vertices and of edges, the gains of branches, and what the plan says of a pair of vertices. Assumes nothing.
 use mathlib.Core.Path.{_≡_, refl, sym, ap, _∙_, subst}
 use mathlib.Core.Logic.{⊎-elim, _≢_}
-use mathlib.Core.Bool.{Bool, true, false, cond, _&&_, _||_}
+use mathlib.Core.Bool.{true, false, cond}
 use mathlib.Core.List.{List}
 use Prim.Native.Nat.{ℕ, zero, suc, _+_, _*_, _≤_, _<_}
 use native.Mathlib.Omega.{arith}
 use native.Mathlib.Nat.{not-suc-le-zero}
 use lib.ListN.{length, getD, set, length-set}
 use lib.Seq.{getD-set-same, getD-set-other}
-use lib.Dec.{T, eqb}
+use lib.Dec.{T}
+use borrow.Author.Tests.{eq-eqb, ne-eqb}
 use lib.IntN.{ℤ}
 use Rattle.foundations.specs.Tests.{same?}
 use Rattle.foundations.specs.Int.{up}
@@ -17,20 +18,21 @@ use Rattle.model.specs.Bytes.{int32At}
 use Rattle.model.specs.Limits.{forbidden, vertexLimit, degreeLimit, pairLimit}
 use Rattle.model.specs.Weights.{Weight, none, some, weighed, plusW, isForbidden, weightOk}
 use Rattle.model.specs.Table.{vertexLabels, edgeLabels, edgeWeight, vertexWeight, vertexRow, edgeRow, column}
-use Rattle.model.specs.Tree.{count, vertexLabel, serial, endA, endB, edgeLabelAt}
-use Rattle.model.specs.Graph.{edges, joins, edgeBefore, neighbours, edgeLabel}
+use Rattle.model.specs.Tree.{count, vertexLabel, serial}
+use Rattle.model.specs.Graph.{neighbours}
 use Rattle.model.specs.Order.{children, choices, width, index, subproblems}
 use Rattle.model.specs.Pairs.{apart, vertexPair, edgePair}
 use Rattle.model.specs.Values.{branch}
-use Rattle.trees.specs.Accepted.{Passed, edge-known, vertex-known}
-use Rattle.trees.specs.Neighbours.{Adjacent, mem-adjacent, adjacent-mem, adjacent-back, few-neighbours, edge-joins}
+use Rattle.trees.specs.Accepted.{Passed, vertex-known}
+use Rattle.trees.specs.Directions.{labelSeen, waySeen, EdgeSeen, label-seen, agree-seen, edge-seen, known-seen}
+use Rattle.trees.specs.Neighbours.{Adjacent, mem-adjacent, adjacent-mem, adjacent-back, few-neighbours}
 use Rattle.trees.specs.Rooted.{child-of, up-edge}
 use Rattle.trees.specs.Positions.{index-low, position-low}
 use Rattle.formats.specs.Table.{TablePassed}
 use Rattle.formats.specs.Inputs.{Accepted}
 use Rattle.integers.specs.Results.{gainMost, Gain}
 use Rattle.plan.specs.Plan.{recordedVertices, foundVertices, labelIn, serialIn, VertexIn, childCountIn, childEdgeIn, childPlaceIn, degreeIn, neighbourEdgeIn, behindIn, Ready, Pair}
-use Rattle.plan.specs.Numbers.{ready-accepted}
+use Rattle.plan.specs.Numbers.{ready-accepted, ready-sound, ready-recorded}
 
 -- ---- the pair of vertices
 
@@ -110,44 +112,22 @@ weighed-none w e = rw e
 
 -- ---- the pair of edges
 
--- w is the weight of each pair of edges of which the plan says i and j
+-- w is the weight of each pair of edges of which i and j are seen from two ends that are partners
 pub record EdgePair (table : List ℕ) (i j : ℕ) (w : ℤ) : Type 0 where
-  pub is : (r f : List ℕ) (u u′ v v′ : ℕ) → i ≡ edgeLabel r u u′ → j ≡ edgeLabel f v v′ → edgePair table r f u u′ v v′ ≡ weighed w
+  pub is : (r f : List ℕ) (u u′ v v′ : ℕ) → EdgeSeen r u u′ i → EdgeSeen f v v′ j → edgePair table r f u u′ v v′ ≡ weighed w
   pub ok : weightOk w ≡ true
 
-pub edge-pair : (table : List ℕ) → TablePassed table → (i j : ℕ) (w : ℤ) → i < edgeLabels table → j < edgeLabels table → w ≡ int32At table (column (edgeRow table i) j) → EdgePair table i j w
+pub pair-along : (table : List ℕ) → TablePassed table → (i j : ℕ) (w : ℤ) → labelSeen i < edgeLabels table → labelSeen j < edgeLabels table → waySeen i ≡ waySeen j
+    → w ≡ int32At table (column (edgeRow table (labelSeen i)) (labelSeen j)) → EdgePair table i j w
 unfolding edgePair edgeWeight
-edge-pair table T i j w hi hj e = record { is = λ r f u u′ v v′ a b. rw (e, a, b); ok = rw e (T .edge-ok i j hi hj) }
+pair-along table T i j w hi hj e h = record {
+  is = λ r f u u′ v v′ a b. rw (agree-seen r f u u′ v v′ i j a b, eq-eqb (waySeen i) (waySeen j) e, h, label-seen a, label-seen b);
+  ok = rw h (T .edge-ok (labelSeen i) (labelSeen j) hi hj);
+}
 
--- a pair of edges weighs the same from its other ends
-or-swap : (a b : Bool) → (a || b) ≡ (b || a)
-or-swap true true = refl
-or-swap true false = refl
-or-swap false true = refl
-or-swap false false = refl
-
-and-swap : (a b : Bool) → (a && b) ≡ (b && a)
-and-swap true true = refl
-and-swap true false = refl
-and-swap false true = refl
-and-swap false false = refl
-
-joins-swap : (a b v w : ℕ) → joins a b v w ≡ joins a b w v
-unfolding joins
-joins-swap a b v w = or-swap (eqb a v && eqb b w) (eqb b v && eqb a w) ∙ ap (λ (x : Bool). x || (eqb a v && eqb b w)) (and-swap (eqb b v) (eqb a w)) ∙ ap (λ (x : Bool). (eqb a w && eqb b v) || x) (and-swap (eqb a v) (eqb b w))
-
-edge-swap : (s : List ℕ) (n v w k : ℕ) → edgeBefore s n v w k ≡ edgeBefore s n w v k
-unfolding edgeBefore
-edge-swap s n v w zero = refl
-edge-swap s n v w (suc k) = rw (joins-swap (endA s n k) (endB s n k) v w, edge-swap s n v w k)
-
-pub label-swap : (s : List ℕ) (v w : ℕ) → edgeLabel s v w ≡ edgeLabel s w v
-unfolding edgeLabel
-label-swap s v w = ap (edgeLabelAt s (count s)) (edge-swap s (count s) v w (edges s))
-
-pub pair-swap : (table r f : List ℕ) (u u′ v v′ : ℕ) → edgePair table r f u u′ v v′ ≡ edgePair table r f u′ u v′ v
-unfolding edgePair
-pair-swap table r f u u′ v v′ = rw (label-swap r u u′, label-swap f v v′)
+pub pair-against : (table : List ℕ) (i j : ℕ) → waySeen i ≢ waySeen j → EdgePair table i j forbidden
+unfolding edgePair weighed isForbidden weightOk
+pair-against table i j e = record { is = λ r f u u′ v v′ a b. rw (agree-seen r f u u′ v v′ i j a b, ne-eqb (waySeen i) (waySeen j) e); ok = refl }
 
 -- ---- gains
 
@@ -229,11 +209,6 @@ filled-more n l F g r hl D R = record {
 
 -- ---- in accepted trees
 
--- the label of an edge is one of the table's
-pub label-known : (s : List ℕ) (K L : ℕ) → Passed s K L → (v x : ℕ) → Adjacent s v x → edgeLabel s v x < L
-unfolding edgeLabel
-label-known s K L p v x a = edge-known s K L _ p (edge-joins s v x a .0)
-
 child-adjacent : (s : List ℕ) (K L : ℕ) → Passed s K L → (u c : ℕ) → u < count s → T (mem c (children s u)) → Adjacent s u c
 child-adjacent s K L p u c l m =
     let q = child-of s (p .ends) (p .tree) u c l m in
@@ -275,11 +250,14 @@ module _ {table r f : List ℕ} {plan : List (List ℕ)} (N : Ready table r f pl
       pub child-low : getD (children r u) i 0 < count r
       child-low = child-of r (pr .ends) (pr .tree) u (getD (children r u) i 0) (Q .u-low) child-in .0
 
-      pub child-edge-is : childEdgeIn plan u i ≡ edgeLabel r u (getD (children r u) i 0)
-      child-edge-is = N .planned .recorded u (Q .u-low) .child-edge i hi
+      child-joined : Adjacent r u (getD (children r u) i 0)
+      child-joined = child-adjacent r _ _ pr u (getD (children r u) i 0) (Q .u-low) child-in
 
-      pub child-edge-low : childEdgeIn plan u i < edgeLabels table
-      child-edge-low = rw child-edge-is (label-known r _ _ pr u (getD (children r u) i 0) (child-adjacent r _ _ pr u (getD (children r u) i 0) (Q .u-low) child-in))
+      pub child-edge-seen : EdgeSeen r u (getD (children r u) i 0) (childEdgeIn plan u i)
+      child-edge-seen = edge-seen r (ready-recorded N) u (getD (children r u) i 0) child-joined (childEdgeIn plan u i) (N .planned .recorded u (Q .u-low) .child-edge i hi)
+
+      pub child-edge-low : labelSeen (childEdgeIn plan u i) < edgeLabels table
+      child-edge-low = known-seen pr child-joined child-edge-seen
 
       pub child-place-low : childPlaceIn plan u i < count r
       child-place-low = rw (N .planned .recorded u (Q .u-low) .child-place i hi) (position-low r (pr .ends) (pr .tree) (getD (children r u) i 0) child-low)
@@ -288,11 +266,14 @@ module _ {table r f : List ℕ} {plan : List (List ℕ)} (N : Ready table r f pl
         neighbour-in : T (mem (getD (neighbours f v) j 0) (neighbours f v))
         neighbour-in = getD-mem (neighbours f v) j hj
 
-        pub edge-is : neighbourEdgeIn plan v j ≡ edgeLabel f v (getD (neighbours f v) j 0)
-        edge-is = N .planned .found v (Q .v-low) .edge j hj
+        neighbour-joined : Adjacent f v (getD (neighbours f v) j 0)
+        neighbour-joined = mem-adjacent f v (getD (neighbours f v) j 0) neighbour-in .1
 
-        pub edge-low : neighbourEdgeIn plan v j < edgeLabels table
-        edge-low = rw edge-is (label-known f _ _ pf v (getD (neighbours f v) j 0) (mem-adjacent f v (getD (neighbours f v) j 0) neighbour-in .1))
+        neighbour-edge-seen : EdgeSeen f v (getD (neighbours f v) j 0) (neighbourEdgeIn plan v j)
+        neighbour-edge-seen = edge-seen f (ready-sound N) v (getD (neighbours f v) j 0) neighbour-joined (neighbourEdgeIn plan v j) (N .planned .found v (Q .v-low) .edge j hj)
+
+        pub edge-low : labelSeen (neighbourEdgeIn plan v j) < edgeLabels table
+        edge-low = known-seen pf neighbour-joined neighbour-edge-seen
 
         -- v is one of the neighbour's choices of s
         pub back-in : T (mem v (choices f (getD (neighbours f v) j 0)))
@@ -314,4 +295,4 @@ module _ {table r f : List ℕ} {plan : List (List ℕ)} (N : Ready table r f pl
         gain-is given edge y g e h G = rw (E, h) (G .is)
           where
             E : edgePair table r f u (getD (children r u) i 0) v (getD (neighbours f v) j 0) ≡ weighed edge
-            E = e .is r f u (getD (children r u) i 0) v (getD (neighbours f v) j 0) child-edge-is edge-is
+            E = e .is r f u (getD (children r u) i 0) v (getD (neighbours f v) j 0) child-edge-seen neighbour-edge-seen

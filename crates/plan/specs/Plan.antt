@@ -10,9 +10,10 @@ use lib.IntN.{ℤ}
 use Rattle.model.specs.Limits.{vertexLimit, degreeLimit}
 use Rattle.model.specs.Bytes.{wordAt}
 use Rattle.model.specs.Tree.{count, vertexLabel, serial}
-use Rattle.model.specs.Graph.{neighbours, edgeLabel}
+use Rattle.model.specs.Graph.{neighbours}
 use Rattle.model.specs.Order.{children, parent, postorder, position, offset, slot, subproblems}
 use Rattle.model.specs.Calls.{inputItem}
+use Rattle.trees.specs.Directions.{seen}
 
 -- ---- where a number stands
 
@@ -37,8 +38,8 @@ labelIn plan first x = getD (getD plan (first + x) []) 0 0
 abbrev pub serialIn : List (List ℕ) → ℕ → ℕ → ℕ
 serialIn plan first x = wordAt (getD plan (first + x) []) 4
 
--- recorded vertex u: how many children it has, its place in the postorder, the vertex that stands u-th in the postorder, its parent, and the label
--- of the edge to the parent
+-- recorded vertex u: how many children it has, its place in the postorder, the vertex that stands u-th in the postorder, its parent, and the edge
+-- to the parent as seen from it
 abbrev pub childCountIn : List (List ℕ) → ℕ → ℕ
 childCountIn plan u = getD (getD plan u []) 0 0
 
@@ -54,7 +55,7 @@ parentIn plan u = getD (getD plan u []) 3 0
 abbrev pub parentEdgeIn : List (List ℕ) → ℕ → ℕ
 parentEdgeIn plan u = getD (getD plan u []) 4 0
 
--- its i-th child: the vertex, the label of the edge to it, and its place in the postorder
+-- its i-th child: the vertex, the edge to it as seen from u, and its place in the postorder
 abbrev pub childIn : List (List ℕ) → ℕ → ℕ → ℕ
 childIn plan u i = getD (getD plan (vertexLimit + u) []) i 0
 
@@ -71,7 +72,7 @@ degreeIn plan v = getD (getD plan (foundRow + v) []) 0 0
 abbrev pub offsetIn : List (List ℕ) → ℕ → ℕ
 offsetIn plan v = getD (getD plan (foundRow + v) []) 1 0
 
--- its j-th neighbour: the vertex, the label of the edge to it, and where the subproblem behind it stands
+-- its j-th neighbour: the vertex, the edge to it as seen from v, and where the subproblem behind it stands
 abbrev pub neighbourIn : List (List ℕ) → ℕ → ℕ → ℕ
 neighbourIn plan v j = getD (getD plan (6 * vertexLimit + v) []) j 0
 
@@ -89,16 +90,16 @@ pub record RecordedIn (r : List ℕ) (plan : List (List ℕ)) (u : ℕ) : Type 0
   pub place : placeIn plan u ≡ position r u
   pub order : orderIn plan u ≡ getD (postorder r) u 0
   pub above : parentIn plan u ≡ parent r u
-  pub above-edge : u ≢ 0 → parentEdgeIn plan u ≡ edgeLabel r u (parent r u)
+  pub above-edge : u ≢ 0 → parentEdgeIn plan u ≡ seen r u (parent r u)
   pub child : (i : ℕ) → i < length (children r u) → childIn plan u i ≡ getD (children r u) i 0
-  pub child-edge : (i : ℕ) → i < length (children r u) → childEdgeIn plan u i ≡ edgeLabel r u (getD (children r u) i 0)
+  pub child-edge : (i : ℕ) → i < length (children r u) → childEdgeIn plan u i ≡ seen r u (getD (children r u) i 0)
   pub child-place : (i : ℕ) → i < length (children r u) → childPlaceIn plan u i ≡ position r (getD (children r u) i 0)
 
 pub record FoundIn (f : List ℕ) (plan : List (List ℕ)) (v : ℕ) : Type 0 where
   pub degree : degreeIn plan v ≡ length (neighbours f v)
   pub begins : offsetIn plan v ≡ offset f v
   pub neighbour : (j : ℕ) → j < length (neighbours f v) → neighbourIn plan v j ≡ getD (neighbours f v) j 0
-  pub edge : (j : ℕ) → j < length (neighbours f v) → neighbourEdgeIn plan v j ≡ edgeLabel f v (getD (neighbours f v) j 0)
+  pub edge : (j : ℕ) → j < length (neighbours f v) → neighbourEdgeIn plan v j ≡ seen f v (getD (neighbours f v) j 0)
   pub behind : (j : ℕ) → j < length (neighbours f v) → behindIn plan v j ≡ offset f (getD (neighbours f v) j 0) + slot f (getD (neighbours f v) j 0) v
 
 -- the label and the serial of vertex x of the tree s, whose such rows begin at `first`

@@ -96,7 +96,7 @@ pub fn parent(plan: &Plan, u: u8) -> u8
     plan[u as usize][3]
 }
 
-// The label of the edge to it.
+// The edge to it as seen from u: label and direction in one number.
 pub fn parent_edge(plan: &Plan, u: u8) -> u8
     requires { ⌜ u < vertexLimit ⌝ }
     ensures { λ r. ⌜ r ≡ parentEdgeIn (now (plan .entry)) u ⌝ }
@@ -112,7 +112,7 @@ pub fn child(plan: &Plan, u: u8, i: usize) -> u8
     plan[Blocks::CHILD + (u as usize)][i]
 }
 
-// The label of the edge to it.
+// The edge to it as seen from u.
 pub fn child_edge(plan: &Plan, u: u8, i: usize) -> u8
     requires { ⌜ (u < vertexLimit) × (i < degreeLimit) ⌝ }
     ensures { λ r. ⌜ r ≡ childEdgeIn (now (plan .entry)) u i ⌝ }
@@ -152,7 +152,7 @@ pub fn neighbour(plan: &Plan, v: u8, j: usize) -> u8
     plan[Blocks::NEIGHBOUR + (v as usize)][j]
 }
 
-// The label of the edge to it.
+// The edge to it as seen from v.
 pub fn neighbour_edge(plan: &Plan, v: u8, j: usize) -> u8
     requires { ⌜ (v < vertexLimit) × (j < degreeLimit) ⌝ }
     ensures { λ r. ⌜ r ≡ neighbourEdgeIn (now (plan .entry)) v j ⌝ }

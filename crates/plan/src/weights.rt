@@ -11,6 +11,7 @@ ghost use mathlib.Core.Path.{_≡_};
 ghost use Rattle.model.specs.Limits.{vertexLimit};
 ghost use Rattle.model.specs.Pairs.{apart};
 ghost use Rattle.model.specs.Table.{edgeLabels};
+ghost use Rattle.trees.specs.Directions.{labelSeen};
 ghost use Rattle.formats.specs.Table.{TablePassed};
 ghost use Rattle.plan.specs.Plan.{recordedVertices, foundVertices, serialIn};
 ghost use Rattle.plan.specs.Pairs.{Weighable, PairWeighs, EdgePair, GainIs};
@@ -43,13 +44,18 @@ pub fn vertex_pair(table: &[u8], plan: &Plan, u: u8, v: u8) -> i32
     w
 }
 
-// The weight of the pair of a recorded edge and a found edge, by what the plan says of each.
+// The weight of the pair of a recorded edge and a found edge, by what is seen of each from two ends that are partners: forbidden if their directions do
+// not agree, else that of their labels.
 pub fn edge_pair(table: &[u8], i: u8, j: u8) -> i32
     requires { ⌜ TablePassed (now table) ⌝ }
-    requires { ⌜ (i < edgeLabels (now table)) × (j < edgeLabels (now table)) ⌝ }
+    requires { ⌜ (labelSeen i < edgeLabels (now table)) × (labelSeen j < edgeLabels (now table)) ⌝ }
     ensures { λ r. ⌜ EdgePair (now (table .entry)) i j r ⌝ }
 {
-    edge_weight_at(table, i, j)
+    let w = edge_weight_at(table, i % Limits::EDGE_LABELS, j % Limits::EDGE_LABELS);
+    if i / Limits::DIRECTED == j / Limits::DIRECTED {
+        return w;
+    }
+    Limits::FORBIDDEN
 }
 
 // What an edge weight and a value gain. Nothing is added to the forbidden number.

@@ -17,10 +17,11 @@ use Rattle.foundations.specs.Lists.{below-ext, cat, cat-filter, gather, gather-
 use Rattle.foundations.specs.Members.{mem, getD-mem, mem-occ, place, place-low, place-at, place-one, distinct-occ, mem-ne}
 use Rattle.model.specs.Limits.{noVertex, vertexLimit, widthLimit, degreeLimit, prefixLimit}
 use Rattle.model.specs.Tree.{count}
-use Rattle.model.specs.Graph.{joined, edges, neighbours, neighbourTable, edgeLabelTable, edgeLabel, inPlaces}
+use Rattle.model.specs.Graph.{joined, edges, neighbours, neighbourTable, inPlaces}
 use Rattle.model.specs.Order.{children, parent, position, offset, slot, width}
 use Rattle.trees.specs.Accepted.{Passed}
-use Rattle.trees.specs.Neighbours.{mem-adjacent, adjacent-mem, adjacent-back, few-neighbours, neighbour-at, free-at, label-at, joined-says, once-neighbours}
+use Rattle.trees.specs.Directions.{seen, seenTable, seen-at}
+use Rattle.trees.specs.Neighbours.{mem-adjacent, adjacent-mem, adjacent-back, few-neighbours, neighbour-at, free-at, joined-says, once-neighbours}
 use Rattle.trees.specs.Rooted.{one-above, root-parent, no-self, child-of}
 use Rattle.trees.specs.Positions.{offset-up, offset-all, position-child, position-low}
 
@@ -115,21 +116,21 @@ unfoldable pub childrenAmong : List ℕ → List ℕ → ℕ → ℕ → List �
 childrenAmong row place own i = gather (childAmong place own) row i
 
 -- a child's row of the arrays comes from place `from` of the neighbours
-pub record ChildAt (row labels place : List ℕ) (i : ℕ) (label base vertex w : ℕ) : Type 0 where
+pub record ChildAt (row edges place : List ℕ) (i : ℕ) (edge base vertex w : ℕ) : Type 0 where
   pub from : ℕ
   pub low : from < i
   pub name : w ≡ getD row from 0
   pub is : vertex ≡ w
-  pub edge : label ≡ getD labels from 0
+  pub edge-is : edge ≡ getD edges from 0
   pub begins : base ≡ placeOr place w
 
-pub record ChildrenTo (row labels place : List ℕ) (own i c : ℕ) (label base vertex : List ℕ) : Type 0 where
+pub record ChildrenTo (row edges place : List ℕ) (own i c : ℕ) (edge base vertex : List ℕ) : Type 0 where
   pub used : c ≡ length (childrenAmong row place own i)
   pub few : c ≤ i
-  pub label-long : length label ≡ degreeLimit
+  pub edge-long : length edge ≡ degreeLimit
   pub base-long : length base ≡ degreeLimit
   pub vertex-long : length vertex ≡ degreeLimit
-  pub get : (j : ℕ) → j < c → ChildAt row labels place i (getD label j 0) (getD base j 0) (getD vertex j 0) (getD (childrenAmong row place own i) j 0)
+  pub get : (j : ℕ) → j < c → ChildAt row edges place i (getD edge j 0) (getD base j 0) (getD vertex j 0) (getD (childrenAmong row place own i) j 0)
 
 among-yes : (row place : List ℕ) (own i : ℕ) → ltb (placeOr place (getD row i 0)) own ≡ true → childrenAmong row place own (i + 1) ≡ childrenAmong row place own i ++ (getD row i 0 ∷ [])
 unfolding childrenAmong gather childAmong
@@ -139,26 +140,26 @@ among-no : (row place : List ℕ) (own i : ℕ) → ltb (placeOr place (getD row
 unfolding childrenAmong gather childAmong
 among-no row place own i h = rw (add-one, gather, h) (append-nil _)
 
-pub children-none : (row labels place : List ℕ) (own : ℕ) (label base vertex : List ℕ) → length label ≡ degreeLimit → length base ≡ degreeLimit → length vertex ≡ degreeLimit → ChildrenTo row labels place own 0 0 label base vertex
+pub children-none : (row edges place : List ℕ) (own : ℕ) (edge base vertex : List ℕ) → length edge ≡ degreeLimit → length base ≡ degreeLimit → length vertex ≡ degreeLimit → ChildrenTo row edges place own 0 0 edge base vertex
 unfolding childrenAmong gather
-children-none row labels place own label base vertex a b c = record { used = refl; few = omega arith; label-long = a; base-long = b; vertex-long = c; get = λ j h. absurd (not-suc-le-zero h) }
+children-none row edges place own edge base vertex a b c = record { used = refl; few = omega arith; edge-long = a; base-long = b; vertex-long = c; get = λ j h. absurd (not-suc-le-zero h) }
 
-child-after : {row labels place : List ℕ} {i label base vertex w : ℕ} → ChildAt row labels place i label base vertex w → ChildAt row labels place (i + 1) label base vertex w
-child-after k = let l = k .low in record { from = k .from; low = omega arith; name = k .name; is = k .is; edge = k .edge; begins = k .begins }
+child-after : {row edges place : List ℕ} {i edge base vertex w : ℕ} → ChildAt row edges place i edge base vertex w → ChildAt row edges place (i + 1) edge base vertex w
+child-after k = let l = k .low in record { from = k .from; low = omega arith; name = k .name; is = k .is; edge-is = k .edge-is; begins = k .begins }
 
 -- the places below c stay
-child-kept : (row labels place : List ℕ) (own i c : ℕ) (label base vertex : List ℕ) (x y z : ℕ) → ChildrenTo row labels place own i c label base vertex → (j : ℕ) → j < c → ChildAt row labels place (i + 1) (getD (set label c x) j 0) (getD (set base c y) j 0) (getD (set vertex c z) j 0) (getD (childrenAmong row place own i) j 0)
-child-kept row labels place own i c label base vertex x y z k j h =
+child-kept : (row edges place : List ℕ) (own i c : ℕ) (edge base vertex : List ℕ) (x y z : ℕ) → ChildrenTo row edges place own i c edge base vertex → (j : ℕ) → j < c → ChildAt row edges place (i + 1) (getD (set edge c x) j 0) (getD (set base c y) j 0) (getD (set vertex c z) j 0) (getD (childrenAmong row place own i) j 0)
+child-kept row edges place own i c edge base vertex x y z k j h =
     let n : j ≢ c = λ e. omega (arith, e) in
-    rw (getD-set-other label c j x 0 n, getD-set-other base c j y 0 n, getD-set-other vertex c j z 0 n) (child-after (k .get j h))
+    rw (getD-set-other edge c j x 0 n, getD-set-other base c j y 0 n, getD-set-other vertex c j z 0 n) (child-after (k .get j h))
 
 -- one place more: what stands at c is counted or not
-pub children-more : (row labels place : List ℕ) (own i c : ℕ) (label base vertex : List ℕ) (w p y d : ℕ) → i < degreeLimit → ChildrenTo row labels place own i c label base vertex → w ≡ getD row i 0 → p ≡ placeOr place w → y ≡ p → d ≡ nextOf c p own → ChildrenTo row labels place own (i + 1) d (set label c (getD labels i 0)) (set base c y) (set vertex c w)
+pub children-more : (row edges place : List ℕ) (own i c : ℕ) (edge base vertex : List ℕ) (w p y d : ℕ) → i < degreeLimit → ChildrenTo row edges place own i c edge base vertex → w ≡ getD row i 0 → p ≡ placeOr place w → y ≡ p → d ≡ nextOf c p own → ChildrenTo row edges place own (i + 1) d (set edge c (getD edges i 0)) (set base c y) (set vertex c w)
 unfolding nextOf
-children-more row labels place own i c label base vertex w p y d h k ew ep ey ed = go (ltb p own) refl
+children-more row edges place own i c edge base vertex w p y d h k ew ep ey ed = go (ltb p own) refl
   where
     x : ℕ
-    x = getD labels i 0
+    x = getD edges i 0
 
     few : c ≤ i
     few = k .few
@@ -166,19 +167,19 @@ children-more row labels place own i c label base vertex w p y d h k ew ep ey ed
     test : ltb (placeOr place (getD row i 0)) own ≡ ltb p own
     test = ap (λ (z : ℕ). ltb z own) (sym (ep ∙ ap (placeOr place) ew))
 
-    go : (t : Bool) → ltb p own ≡ t → ChildrenTo row labels place own (i + 1) d (set label c x) (set base c y) (set vertex c w)
+    go : (t : Bool) → ltb p own ≡ t → ChildrenTo row edges place own (i + 1) d (set edge c x) (set base c y) (set vertex c w)
     go true e =
         let all : childrenAmong row place own (i + 1) ≡ childrenAmong row place own i ++ (getD row i 0 ∷ []) = among-yes row place own i (test ∙ e) in
         let long : length (childrenAmong row place own i ++ (getD row i 0 ∷ [])) ≡ length (childrenAmong row place own i) + 1 = length-append (childrenAmong row place own i) (getD row i 0 ∷ []) in
         let u : c ≡ length (childrenAmong row place own i) = k .used in
-        let la : length label ≡ degreeLimit = k .label-long in
+        let la : length edge ≡ degreeLimit = k .edge-long in
         let lb : length base ≡ degreeLimit = k .base-long in
         let lv : length vertex ≡ degreeLimit = k .vertex-long in
         let dd : d ≡ c + 1 = ed ∙ rw e in
         record {
           used = rw all (omega arith);
           few = omega (arith, few);
-          label-long = length-set label c x ∙ la;
+          edge-long = length-set edge c x ∙ la;
           base-long = length-set base c y ∙ lb;
           vertex-long = length-set vertex c w ∙ lv;
           get = λ j l. rw all (⊎-elim
@@ -188,10 +189,10 @@ children-more row labels place own i c label base vertex w p y d h k ew ep ey ed
                 low = omega arith;
                 name = last ∙ ew;
                 is = ap (λ (z : ℕ). getD (set vertex c w) z 0) q ∙ getD-set-same vertex c w 0 (omega (arith, few)) ∙ sym last;
-                edge = ap (λ (z : ℕ). getD (set label c x) z 0) q ∙ getD-set-same label c x 0 (omega (arith, few));
+                edge-is = ap (λ (z : ℕ). getD (set edge c x) z 0) q ∙ getD-set-same edge c x 0 (omega (arith, few));
                 begins = ap (λ (z : ℕ). getD (set base c y) z 0) q ∙ getD-set-same base c y 0 (omega (arith, few)) ∙ ey ∙ rw (ep, last);
               })
-              (λ q. rw (List·getD-append (childrenAmong row place own i) (getD row i 0 ∷ []) 0 j (omega arith)) (child-kept row labels place own i c label base vertex x y w k j (omega arith)))
+              (λ q. rw (List·getD-append (childrenAmong row place own i) (getD row i 0 ∷ []) 0 j (omega arith)) (child-kept row edges place own i c edge base vertex x y w k j (omega arith)))
               (same? j c));
         }
       where
@@ -204,24 +205,24 @@ children-more row labels place own i c label base vertex w p y d h k ew ep ey ed
         record {
           used = dd ∙ k .used ∙ ap length (sym none);
           few = omega (arith, few);
-          label-long = length-set label c x ∙ k .label-long;
+          edge-long = length-set edge c x ∙ k .edge-long;
           base-long = length-set base c y ∙ k .base-long;
           vertex-long = length-set vertex c w ∙ k .vertex-long;
-          get = λ j l. rw none (child-kept row labels place own i c label base vertex x y w k j (omega arith));
+          get = λ j l. rw none (child-kept row edges place own i c edge base vertex x y w k j (omega arith));
         }
 
 -- ---- the children of u, in an accepted tree
 
-pub record ChildIs (r : List ℕ) (u c label base : ℕ) : Type 0 where
+pub record ChildIs (r : List ℕ) (u c edge base : ℕ) : Type 0 where
   pub child : T (mem c (children r u))
-  pub edge : label ≡ edgeLabel r u c
+  pub edge-is : edge ≡ seen r u c
   pub begins : base ≡ position r c
 
-pub record ChildrenAre (r : List ℕ) (u c : ℕ) (label base vertex : List ℕ) : Type 0 where
+pub record ChildrenAre (r : List ℕ) (u c : ℕ) (edge base vertex : List ℕ) : Type 0 where
   pub used : c ≡ length (children r u)
   pub few : c ≤ degreeLimit
   pub names : (i : ℕ) → i < c → getD vertex i 0 ≡ getD (children r u) i 0
-  pub get : (i : ℕ) → i < c → ChildIs r u (getD (children r u) i 0) (getD label i 0) (getD base i 0)
+  pub get : (i : ℕ) → i < c → ChildIs r u (getD (children r u) i 0) (getD edge i 0) (getD base i 0)
 
 cat-each : (l : List ℕ) → cat (λ w. w ∷ []) l ≡ l
 unfolding cat
@@ -304,18 +305,18 @@ behind-more rows starts v j r b h B N =
 -- ---- and in an accepted tree
 
 module _ (r : List ℕ) (K L : ℕ) (p : Passed r K L) (place : List ℕ) (placed : (u : ℕ) → u < count r → getD place u 0 ≡ position r u) where
-  pub children-are : (u c : ℕ) (label base vertex : List ℕ) → u < count r → ChildrenTo (getD (neighbourTable r) u []) (getD (edgeLabelTable r) u []) place (position r u) degreeLimit c label base vertex → ChildrenAre r u c label base vertex
-  children-are u c label base vertex lu k =
+  pub children-are : (u c : ℕ) (edge base vertex : List ℕ) → u < count r → ChildrenTo (getD (neighbourTable r) u []) (getD (seenTable r) u []) place (position r u) degreeLimit c edge base vertex → ChildrenAre r u c edge base vertex
+  children-are u c edge base vertex lu k =
       let all : childrenAmong (getD (neighbourTable r) u []) place (position r u) degreeLimit ≡ children r u = among-children r K L p place placed u lu in
       let used : c ≡ length (children r u) = k .used ∙ ap length all in
       record {
         used = used;
         few = k .few;
         names = λ i l. k .get i l .is ∙ ap (λ (m : List ℕ). getD m i 0) all;
-        get = λ i l. kid (getD (children r u) i 0) _ _ _ (getD-mem (children r u) i (omega arith)) (subst (λ (m : List ℕ). ChildAt (getD (neighbourTable r) u []) (getD (edgeLabelTable r) u []) place degreeLimit (getD label i 0) (getD base i 0) (getD vertex i 0) (getD m i 0)) all (k .get i l));
+        get = λ i l. kid (getD (children r u) i 0) _ _ _ (getD-mem (children r u) i (omega arith)) (subst (λ (m : List ℕ). ChildAt (getD (neighbourTable r) u []) (getD (seenTable r) u []) place degreeLimit (getD edge i 0) (getD base i 0) (getD vertex i 0) (getD m i 0)) all (k .get i l));
       }
     where
-      kid : (w a b x : ℕ) → T (mem w (children r u)) → ChildAt (getD (neighbourTable r) u []) (getD (edgeLabelTable r) u []) place degreeLimit a b x w → ChildIs r u w a b
+      kid : (w a b x : ℕ) → T (mem w (children r u)) → ChildAt (getD (neighbourTable r) u []) (getD (seenTable r) u []) place degreeLimit a b x w → ChildIs r u w a b
       kid w a b x m q =
           let low : w < count r = child-of r (p .ends) (p .tree) u w lu m .0 in
           let few : count r ≤ vertexLimit = p .ends .few in
@@ -324,7 +325,7 @@ module _ (r : List ℕ) (K L : ℕ) (p : Passed r K L) (place : List ℕ) (place
           let name : w ≡ getD (neighbours r u) (q .from) 0 = q .name ∙ neighbour-at r K L p u (q .from) lu here in
           record {
             child = m;
-            edge = q .edge ∙ label-at r K L p u (q .from) lu here ∙ ap (edgeLabel r u) (sym name);
+            edge-is = q .edge-is ∙ seen-at r K L p u (q .from) lu here ∙ ap (seen r u) (sym name);
             begins = q .begins ∙ place-is r K L p place placed w low;
           }
 

@@ -1,4 +1,4 @@
--- The parent of a recorded vertex and the label of the edge to it, from the neighbours in their places. Assumes nothing.
+-- The parent of a recorded vertex and the edge to it, from the neighbours in their places. Assumes nothing.
 use mathlib.Core.Path.{_≡_, sym, ap, _∙_, subst}
 use mathlib.Core.Logic.{⊎-elim, _≢_}
 use mathlib.Core.Bool.{Bool, true, _&&_, cond}
@@ -12,10 +12,11 @@ use Rattle.foundations.specs.Tests.{same?, less?, and-split}
 use Rattle.foundations.specs.Members.{place, mem-occ, place-at, place-low, getD-mem}
 use Rattle.model.specs.Limits.{noVertex, vertexLimit, degreeLimit}
 use Rattle.model.specs.Tree.{count}
-use Rattle.model.specs.Graph.{neighbours, edgeLabel, neighbourTable, edgeLabelTable}
+use Rattle.model.specs.Graph.{neighbours, neighbourTable}
 use Rattle.model.specs.Order.{parent, position}
 use Rattle.trees.specs.Accepted.{Passed}
-use Rattle.trees.specs.Neighbours.{Adjacent, adjacent-low, mem-adjacent, adjacent-mem, few-neighbours, neighbour-at, free-at, label-at}
+use Rattle.trees.specs.Directions.{seen, seenTable, seen-at}
+use Rattle.trees.specs.Neighbours.{Adjacent, adjacent-low, mem-adjacent, adjacent-mem, few-neighbours, neighbour-at, free-at}
 use Rattle.trees.specs.Rooted.{up-edge, parent-low, root-parent, one-above}
 use Rattle.trees.specs.Positions.{position-child}
 
@@ -96,8 +97,8 @@ module _ (s : List ℕ) (K L : ℕ) (p : Passed s K L) (at : List ℕ) (placed :
         (λ h. at-none (getD (neighbourTable s) u []) k h ∙ ⊎-elim (λ z. sym (ap (parent s) z ∙ root-parent s (p .ends) (p .tree))) (λ z. absurd (let b = has-later z in omega arith)) (same? u 0))
         (less? k degreeLimit)
 
-    pub parent-edge-at : u ≢ 0 → atOr (getD (edgeLabelTable s) u []) k ≡ edgeLabel s u (parent s u)
+    pub parent-edge-at : u ≢ 0 → atOr (getD (seenTable s) u []) k ≡ seen s u (parent s u)
     parent-edge-at z =
         let h = has-later z in
         let q = here-parent h in
-        at-some (getD (edgeLabelTable s) u []) k h ∙ label-at s K L p u k l (q .0) ∙ ap (edgeLabel s u) (q .1)
+        at-some (getD (seenTable s) u []) k h ∙ seen-at s K L p u k l (q .0) ∙ ap (seen s u) (q .1)

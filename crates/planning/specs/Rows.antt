@@ -1,4 +1,4 @@
--- How the plan's rows come about: what was read of either tree, a vertex's four rows stored, and its own row with label and serial. Assumes nothing.
+-- How the plan's rows come about: what was read of either tree, a vertex's four rows stored, and its own row with edge and serial. Assumes nothing.
 use mathlib.Core.Path.{_≡_, refl, _∙_}
 use mathlib.Core.Logic.{inl, ⊎-elim, _≢_}
 use mathlib.Core.List.{List, []}
@@ -12,11 +12,12 @@ use Rattle.foundations.specs.Members.{getD-mem}
 use Rattle.model.specs.Limits.{widthLimit, degreeLimit, vertexLimit}
 use Rattle.model.specs.Bytes.{wordAt, putWord}
 use Rattle.model.specs.Tree.{count, vertexLabel, serial}
-use Rattle.model.specs.Graph.{neighbours, neighbourTable, edgeLabelTable}
+use Rattle.model.specs.Graph.{neighbours, neighbourTable}
 use Rattle.model.specs.Order.{children, postorder, position, offset}
 use Rattle.integers.specs.Laws.{word-other, word-put}
 use Rattle.trees.specs.Accepted.{Sound}
-use Rattle.trees.specs.Neighbours.{few-neighbours, neighbour-at, label-at}
+use Rattle.trees.specs.Directions.{seenTable, seen-at}
+use Rattle.trees.specs.Neighbours.{few-neighbours, neighbour-at}
 use Rattle.trees.specs.Visits.{OrderOf, Ordered, ordered, ordered-different, Different, Placed, placed-position}
 use Rattle.plan.specs.Plan.{planRows, foundRow, recordedVertices, foundVertices, RecordedIn, FoundIn, VertexIn, Planned}
 use Rattle.planning.specs.Parents.{LaterAt, atOr, parent-at, parent-edge-at}
@@ -24,17 +25,17 @@ use Rattle.planning.specs.Making.{TakenPlaces, taken-neighbours, Starts,
 
 -- ---- what was read
 
-pub record RecordedRead (r : List ℕ) (rows labels : List (List ℕ)) (order place : List ℕ) : Type 0 where
+pub record RecordedRead (r : List ℕ) (rows edges : List (List ℕ)) (order place : List ℕ) : Type 0 where
   pub sound : Sound r
   pub neighbours : rows ≡ neighbourTable r
-  pub edges : labels ≡ edgeLabelTable r
+  pub edges-seen : edges ≡ seenTable r
   pub ordered : (i : ℕ) → i < count r → getD order i 0 ≡ getD (postorder r) i 0
   pub placed : (u : ℕ) → u < count r → getD place u 0 ≡ position r u
 
-pub record FoundRead (f : List ℕ) (rows labels : List (List ℕ)) (starts : List ℕ) : Type 0 where
+pub record FoundRead (f : List ℕ) (rows edges : List (List ℕ)) (starts : List ℕ) : Type 0 where
   pub sound : Sound f
   pub neighbours : rows ≡ neighbourTable f
-  pub edges : labels ≡ edgeLabelTable f
+  pub edges-seen : edges ≡ seenTable f
   pub offsets : (v : ℕ) → v ≤ count f → getD starts v 0 ≡ offset f v
   pub small : (v : ℕ) → getD starts v 0 ≤ widthLimit
 
@@ -102,12 +103,12 @@ recorded-same r plan plan′ u a b c d R = record {
 }
 
 -- the first row of u
-pub record Head (row : List ℕ) (c own at up label : ℕ) : Type 0 where
+pub record Head (row : List ℕ) (c own at up edge : ℕ) : Type 0 where
   pub number : getD row 0 0 ≡ c
   pub place : getD row 1 0 ≡ own
   pub order : getD row 2 0 ≡ at
   pub above : getD row 3 0 ≡ up
-  pub edge : getD row 4 0 ≡ label
+  pub edge-is : getD row 4 0 ≡ edge
 
 -- the first u vertices' rows, and the found half as it was
 pub record RecordedHalf (r : List ℕ) (old plan : List (List ℕ)) (u : ℕ) : Type 0 where
@@ -118,24 +119,24 @@ pub record RecordedHalf (r : List ℕ) (old plan : List (List ℕ)) (u : ℕ) : 
 pub recorded-none : (r : List ℕ) (plan : List (List ℕ)) → length plan ≡ planRows → RecordedHalf r plan plan 0
 recorded-none r plan e = record { long = e; get = λ x h. absurd (not-suc-le-zero h); kept = λ x h. refl }
 
-pub recorded-more : {r : List ℕ} {rows labels : List (List ℕ)} {order place : List ℕ} → RecordedRead r rows labels order place → (old plan : List (List ℕ)) (u : ℕ) → u < count r → RecordedHalf r old plan u
-    → (c : ℕ) (label at vertex head : List ℕ) (k : ℕ) → ChildrenTo (getD rows u []) (getD labels u []) place (getD place u 0) degreeLimit c label at vertex → LaterAt (getD rows u []) place (getD place u 0) k
-    → Head head c (getD place u 0) (getD order u 0) (atOr (getD rows u []) k) (atOr (getD labels u []) k)
-    → RecordedHalf r old (set (set (set (set plan u head) (vertexLimit + u) vertex) (2 * vertexLimit + u) label) (3 * vertexLimit + u) at) (u + 1)
-recorded-more {r} {rows} {labels} {order} {place} N old plan u lu P c label at vertex head k C F H =
+pub recorded-more : {r : List ℕ} {rows edges : List (List ℕ)} {order place : List ℕ} → RecordedRead r rows edges order place → (old plan : List (List ℕ)) (u : ℕ) → u < count r → RecordedHalf r old plan u
+    → (c : ℕ) (edge at vertex head : List ℕ) (k : ℕ) → ChildrenTo (getD rows u []) (getD edges u []) place (getD place u 0) degreeLimit c edge at vertex → LaterAt (getD rows u []) place (getD place u 0) k
+    → Head head c (getD place u 0) (getD order u 0) (atOr (getD rows u []) k) (atOr (getD edges u []) k)
+    → RecordedHalf r old (set (set (set (set plan u head) (vertexLimit + u) vertex) (2 * vertexLimit + u) edge) (3 * vertexLimit + u) at) (u + 1)
+recorded-more {r} {rows} {edges} {order} {place} N old plan u lu P c edge at vertex head k C F H =
     let p = N .sound .passed in
     let few : count r ≤ vertexLimit = p .ends .few in
     let n : length plan ≡ planRows = P .long in
-    let K : ChildrenAre r u c label at vertex = children-are r _ _ p place (N .placed) u c label at vertex lu (rw (N .neighbours, N .edges, N .placed u lu) at C) in
+    let K : ChildrenAre r u c edge at vertex = children-are r _ _ p place (N .placed) u c edge at vertex lu (rw (N .neighbours, N .edges-seen, N .placed u lu) at C) in
     let G : LaterAt (getD (neighbourTable r) u []) place (position r u) k = rw (N .neighbours, N .placed u lu) at F in
     let used : c ≡ length (children r u) = K .used in
-    let a1 = stored-1 u 0 u plan head vertex label at (omega arith) (omega arith) in
-    let a2 = stored-2 u 0 u plan head vertex label at (omega arith) (omega arith) in
-    let a3 = stored-3 u 0 u plan head vertex label at (omega arith) (omega arith) in
-    let a4 = stored-4 u 0 u plan head vertex label at (omega arith) (omega arith) in
-    let o = stored-other u 0 u plan head vertex label at in
+    let a1 = stored-1 u 0 u plan head vertex edge at (omega arith) (omega arith) in
+    let a2 = stored-2 u 0 u plan head vertex edge at (omega arith) (omega arith) in
+    let a3 = stored-3 u 0 u plan head vertex edge at (omega arith) (omega arith) in
+    let a4 = stored-4 u 0 u plan head vertex edge at (omega arith) (omega arith) in
+    let o = stored-other u 0 u plan head vertex edge at in
     record {
-      long = stored-long u 0 u plan head vertex label at ∙ n;
+      long = stored-long u 0 u plan head vertex edge at ∙ n;
       get = λ x h. ⊎-elim
           (λ e. rw e (record {
             child-count = rw a1 (H .number ∙ used);
@@ -143,9 +144,9 @@ recorded-more {r} {rows} {labels} {order} {place} N old plan u lu P c label at v
             place = rw a1 (H .place ∙ N .placed u lu);
             order = rw a1 (H .order ∙ N .ordered u lu);
             above = rw a1 (H .above ∙ rw (N .neighbours) (parent-at r _ _ p place (N .placed) u k lu G));
-            above-edge = λ z. rw a1 (H .edge ∙ rw (N .edges) (parent-edge-at r _ _ p place (N .placed) u k lu G z));
+            above-edge = λ z. rw a1 (H .edge-is ∙ rw (N .edges-seen) (parent-edge-at r _ _ p place (N .placed) u k lu G z));
             child = λ i l. rw a2 (K .names i (omega arith));
-            child-edge = λ i l. rw a3 (K .get i (omega arith) .edge);
+            child-edge = λ i l. rw a3 (K .get i (omega arith) .edge-is);
             child-place = λ i l. rw a4 (K .get i (omega arith) .begins);
           }))
           (λ e. recorded-same r plan _ x
@@ -178,28 +179,28 @@ pub record FoundHalf (f : List ℕ) (old plan : List (List ℕ)) (v : ℕ) : Typ
 pub found-none : (f : List ℕ) (plan : List (List ℕ)) → length plan ≡ planRows → FoundHalf f plan plan 0
 found-none f plan e = record { long = e; get = λ x h. absurd (not-suc-le-zero h); kept = λ x h. refl }
 
-pub found-more : {f : List ℕ} {rows labels : List (List ℕ)} {starts : List ℕ} → FoundRead f rows labels starts → (old plan : List (List ℕ)) (v : ℕ) → v < count f → FoundHalf f old plan v
+pub found-more : {f : List ℕ} {rows edges : List (List ℕ)} {starts : List ℕ} → FoundRead f rows edges starts → (old plan : List (List ℕ)) (v : ℕ) → v < count f → FoundHalf f old plan v
     → (k : ℕ) (back head : List ℕ) → TakenPlaces (getD rows v []) k → BehindTo rows starts v degreeLimit back → getD head 0 0 ≡ k → getD head 1 0 ≡ getD starts v 0
-    → FoundHalf f old (set (set (set (set plan (foundRow + v) head) (6 * vertexLimit + v) (getD rows v [])) (7 * vertexLimit + v) (getD labels v [])) (8 * vertexLimit + v) back) (v + 1)
-found-more {f} {rows} {labels} {starts} N old plan v lv P k back head t B e0 e1 =
+    → FoundHalf f old (set (set (set (set plan (foundRow + v) head) (6 * vertexLimit + v) (getD rows v [])) (7 * vertexLimit + v) (getD edges v [])) (8 * vertexLimit + v) back) (v + 1)
+found-more {f} {rows} {edges} {starts} N old plan v lv P k back head t B e0 e1 =
     let p = N .sound .passed in
     let few : count f ≤ vertexLimit = p .ends .few in
     let n : length plan ≡ planRows = P .long in
     let used : k ≡ length (neighbours f v) = taken-neighbours f _ _ p v k lv (rw (N .neighbours) at t) in
     let d : length (neighbours f v) ≤ degreeLimit = few-neighbours f _ _ p v lv in
-    let a1 = stored-1 (foundRow + v) foundRow v plan head (getD rows v []) (getD labels v []) back refl (omega arith) in
-    let a2 = stored-2 (foundRow + v) foundRow v plan head (getD rows v []) (getD labels v []) back refl (omega arith) in
-    let a3 = stored-3 (foundRow + v) foundRow v plan head (getD rows v []) (getD labels v []) back refl (omega arith) in
-    let a4 = stored-4 (foundRow + v) foundRow v plan head (getD rows v []) (getD labels v []) back refl (omega arith) in
-    let o = stored-other (foundRow + v) foundRow v plan head (getD rows v []) (getD labels v []) back in
+    let a1 = stored-1 (foundRow + v) foundRow v plan head (getD rows v []) (getD edges v []) back refl (omega arith) in
+    let a2 = stored-2 (foundRow + v) foundRow v plan head (getD rows v []) (getD edges v []) back refl (omega arith) in
+    let a3 = stored-3 (foundRow + v) foundRow v plan head (getD rows v []) (getD edges v []) back refl (omega arith) in
+    let a4 = stored-4 (foundRow + v) foundRow v plan head (getD rows v []) (getD edges v []) back refl (omega arith) in
+    let o = stored-other (foundRow + v) foundRow v plan head (getD rows v []) (getD edges v []) back in
     record {
-      long = stored-long (foundRow + v) foundRow v plan head (getD rows v []) (getD labels v []) back ∙ n;
+      long = stored-long (foundRow + v) foundRow v plan head (getD rows v []) (getD edges v []) back ∙ n;
       get = λ x h. ⊎-elim
           (λ e. rw e (record {
             degree = rw a1 (e0 ∙ used);
             begins = rw a1 (e1 ∙ N .offsets v (omega arith));
             neighbour = λ j l. rw a2 (named j l);
-            edge = λ j l. rw (a3, N .edges) (label-at f _ _ p v j lv l);
+            edge = λ j l. rw (a3, N .edges-seen) (seen-at f _ _ p v j lv l);
             behind = λ j l. rw a4 (behind-is f _ _ p starts (N .offsets) v (getD (neighbours f v) j 0) (getD back j 0) lv (getD-mem (neighbours f v) j l) (rw (named j l, N .neighbours) at (B .get j (omega arith))));
           }))
           (λ e. found-same f plan _ x
@@ -316,8 +317,8 @@ module _ {r : List ℕ} (S : Sound r) {rows : List (List ℕ)} {at : List ℕ} {
   pub order-different : Different at len
   order-different = ordered-different r _ _ (S .passed) at len order-is
 
-  pub recorded-read : (labels : List (List ℕ)) (place : List ℕ) → labels ≡ edgeLabelTable r → Placed at len place → RecordedRead r rows labels at place
-  recorded-read labels place b p = record { sound = S; neighbours = e; edges = b; ordered = order-is .get; placed = placed-position r _ _ (S .passed) at len order-is place p }
+  pub recorded-read : (edges : List (List ℕ)) (place : List ℕ) → edges ≡ seenTable r → Placed at len place → RecordedRead r rows edges at place
+  recorded-read edges place b p = record { sound = S; neighbours = e; edges-seen = b; ordered = order-is .get; placed = placed-position r _ _ (S .passed) at len order-is place p }
 
-pub found-read : {f : List ℕ} → Sound f → {rows labels : List (List ℕ)} {starts : List ℕ} → rows ≡ neighbourTable f → labels ≡ edgeLabelTable f → Starts f (count f) starts → FoundRead f rows labels starts
-found-read S a b s = record { sound = S; neighbours = a; edges = b; offsets = s .offsets; small = s .small }
+pub found-read : {f : List ℕ} → Sound f → {rows edges : List (List ℕ)} {starts : List ℕ} → rows ≡ neighbourTable f → edges ≡ seenTable f → Starts f (count f) starts → FoundRead f rows edges starts
+found-read S a b s = record { sound = S; neighbours = a; edges-seen = b; offsets = s .offsets; small = s .small }

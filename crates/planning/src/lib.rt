@@ -1,5 +1,5 @@
 //! Making the plan: each half reads its own tree once and leaves the other half as it was.
-use adjacency::edge_label_table;
+use adjacency::edge_table;
 use adjacency::neighbour_table;
 use formats::serials::serial_of;
 use formats::tree::vertex_count;
@@ -56,11 +56,11 @@ fn starts(found: &[u8], neighbours: &PlaceTable) -> [u8; Limits::PREFIXES]
     s
 }
 
-// The children of a recorded vertex: their number, and in the first places each one's vertex, the label of the edge to it, and its place.
+// The children of a recorded vertex: their number, and in the first places each one's vertex, the edge to it as seen from its parent, and its place.
 struct Family {
     count: u8,
     vertex: Row,
-    label: Row,
+    edge: Row,
     place: Row,
 }
 
@@ -84,11 +84,11 @@ fn next(c: u8, p: u8, own: u8) -> u8
 }
 
 // Of the neighbours in their places: those that come before `own` in the postorder are the children.
-fn children(neighbours: Row, labels: Row, place: &VertexTable, own: u8) -> Family
-    ensures { λ r. ⌜ ChildrenTo neighbours labels (now (place .entry)) own degreeLimit (r .count) (r .label) (r .place) (r .vertex) ⌝ }
+fn children(neighbours: Row, edges: Row, place: &VertexTable, own: u8) -> Family
+    ensures { λ r. ⌜ ChildrenTo neighbours edges (now (place .entry)) own degreeLimit (r .count) (r .edge) (r .place) (r .vertex) ⌝ }
 {
     let mut vertex = [0u8; Limits::PLACES];
-    let mut label = [0u8; Limits::PLACES];
+    let mut edge = [0u8; Limits::PLACES];
     let mut at = [0u8; Limits::PLACES];
     let mut c: u8 = 0;
     let mut i: usize = 0;
@@ -96,7 +96,7 @@ fn children(neighbours: Row, labels: Row, place: &VertexTable, own: u8) -> Famil
         let w = neighbours[i];
         let p = place_or(place, w);
         vertex[c as usize] = w;
-        label[c as usize] = labels[i];
+        edge[c as usize] = edges[i];
         at[c as usize] = p;
         c = next(c, p, own);
         i += 1;
@@ -104,7 +104,7 @@ fn children(neighbours: Row, labels: Row, place: &VertexTable, own: u8) -> Famil
     Family {
         count: c,
         vertex: vertex,
-        label: label,
+        edge: edge,
         place: at,
     }
 }
@@ -185,7 +185,7 @@ fn at_or(row: Row, k: usize) -> u8
     if k < Limits::PLACES { row[k] } else { 0 }
 }
 
-// A recorded vertex's first row: its children's number, its place in the postorder, the vertex that stands u-th there, its parent and the label of the
+// A recorded vertex's first row: its children's number, its place in the postorder, the vertex that stands u-th there, its parent and the
 // edge to it.
 fn head_of(children: u8, own: u8, at: u8, parent: u8, edge: u8) -> Row
     ensures { λ r. ⌜ Head r children own at parent edge ⌝ }
@@ -204,28 +204,28 @@ fn store_recorded(
     plan: &mut Plan,
     recorded: &[u8],
     neighbours: &PlaceTable,
-    labels: &PlaceTable,
+    edges: &PlaceTable,
     order: &VertexTable,
     place: &VertexTable,
 )
     requires { ⌜ length (now plan) ≡ planRows ⌝ }
-    requires { ⌜ RecordedRead (now recorded) (now neighbours) (now labels) (now order) (now place) ⌝ }
+    requires { ⌜ RecordedRead (now recorded) (now neighbours) (now edges) (now order) (now place) ⌝ }
     ensures { λ _. ⌜ RecordedHalf (now (recorded .entry)) (now (plan .entry)) (now (plan .exit)) (count (now (recorded .entry))) ⌝ }
 {
     let n = vertex_count(recorded);
     let mut u: usize = 0;
     while u < n {
         let own = place[u];
-        let row = children(neighbours[u], labels[u], place, own);
+        let row = children(neighbours[u], edges[u], place, own);
         let k = later_at(neighbours[u], place, own);
         let above = at_or(neighbours[u], k);
-        let edge = at_or(labels[u], k);
-        let head = head_of(row.count, own, order[u], above, edge);
+        let above_edge = at_or(edges[u], k);
+        let head = head_of(row.count, own, order[u], above, above_edge);
         plan[u] = head;
         let vertex = row.vertex;
         plan[Blocks::CHILD + u] = vertex;
-        let label = row.label;
-        plan[Blocks::CHILD_EDGE + u] = label;
+        let edge = row.edge;
+        plan[Blocks::CHILD_EDGE + u] = edge;
         let at = row.place;
         plan[Blocks::CHILD_PLACE + u] = at;
         u += 1;
@@ -237,11 +237,11 @@ fn store_found(
     plan: &mut Plan,
     found: &[u8],
     neighbours: &PlaceTable,
-    labels: &PlaceTable,
+    edges: &PlaceTable,
     starts: &[u8; Limits::PREFIXES],
 )
     requires { ⌜ length (now plan) ≡ planRows ⌝ }
-    requires { ⌜ FoundRead (now found) (now neighbours) (now labels) (now starts) ⌝ }
+    requires { ⌜ FoundRead (now found) (now neighbours) (now edges) (now starts) ⌝ }
     ensures { λ _. ⌜ FoundHalf (now (found .entry)) (now (plan .entry)) (now (plan .exit)) (count (now (found .entry))) ⌝ }
 {
     let m = vertex_count(found);
@@ -254,8 +254,8 @@ fn store_found(
         head[1] = starts[v];
         plan[Blocks::FOUND + v] = head;
         plan[Blocks::NEIGHBOUR + v] = row;
-        let label = labels[v];
-        plan[Blocks::NEIGHBOUR_EDGE + v] = label;
+        let edge = edges[v];
+        plan[Blocks::NEIGHBOUR_EDGE + v] = edge;
         plan[Blocks::BEHIND + v] = back;
         v += 1;
     }
@@ -296,12 +296,12 @@ fn plan_recorded(plan: &mut Plan, recorded: &[u8])
     ensures { λ _. ⌜ RecordedMade (now (recorded .entry)) (now (plan .entry)) (now (plan .exit)) ⌝ }
 {
     let neighbours = neighbour_table(recorded);
-    let mut labels = [[Limits::NONE; Limits::PLACES]; Limits::ROWS];
-    edge_label_table(&mut labels, recorded, &neighbours);
+    let mut edges = [[Limits::NONE; Limits::PLACES]; Limits::ROWS];
+    edge_table(&mut edges, recorded, &neighbours);
     let o = postorder(&neighbours);
     let order = o.at;
     let at = places(o);
-    store_recorded(plan, recorded, &neighbours, &labels, &order, &at);
+    store_recorded(plan, recorded, &neighbours, &edges, &order, &at);
     store_vertices(plan, recorded, Blocks::RECORDED_VERTEX);
 }
 
@@ -312,10 +312,10 @@ fn plan_found(plan: &mut Plan, found: &[u8])
     ensures { λ _. ⌜ FoundMade (now (found .entry)) (now (plan .entry)) (now (plan .exit)) ⌝ }
 {
     let neighbours = neighbour_table(found);
-    let mut labels = [[Limits::NONE; Limits::PLACES]; Limits::ROWS];
-    edge_label_table(&mut labels, found, &neighbours);
+    let mut edges = [[Limits::NONE; Limits::PLACES]; Limits::ROWS];
+    edge_table(&mut edges, found, &neighbours);
     let begins = starts(found, &neighbours);
-    store_found(plan, found, &neighbours, &labels, &begins);
+    store_found(plan, found, &neighbours, &edges, &begins);
     store_vertices(plan, found, Blocks::FOUND_VERTEX);
 }
 

@@ -22,3 +22,4 @@ pub mod ValueRange
 pub mod Filling
 pub mod Theorems
 pub mod Serials
+pub mod Directions

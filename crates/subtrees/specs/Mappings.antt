@@ -19,10 +19,11 @@ use Rattle.model.specs.Order.{parent}
 use Rattle.model.specs.Pairs.{vertexPair, edgePair}
 use Rattle.model.specs.Tree.{count, endA, endB}
 use Rattle.model.specs.Weights.{Weight, none}
+use Rattle.trees.specs.Directions.{pair-swap}
 use Rattle.subtrees.specs.Connected.{Way, stop, onward, way-keeps, inner-of, of-inner, root-not-inner, Joined, Step, ConnectedSet}
 use Rattle.subtrees.specs.Problem.{Instance, Mapping, vertexW, edgeW, weightOf}
 use Rattle.subtrees.specs.Rooted.{inner, total}
-use Rattle.subtrees.specs.Trees.{IsTree, joined-swap, joined-mem, mem-joined, up-joined, above-of, of-above, falls, Hangs, lowerEnd, lower-hangs, lower-once, lower-all, pair-swap, instanceOf}
+use Rattle.subtrees.specs.Trees.{IsTree, joined-swap, joined-mem, mem-joined, up-joined, above-of, of-above, falls, Hangs, lowerEnd, lower-hangs, lower-once, lower-all, instanceOf}
 
 -- ---- bytes that say what `on` and `to` say
 

@@ -9,12 +9,10 @@ use native.Mathlib.Omega.{arith}
 use lib.Dec.{T, eqb}
 use borrow.Author.Tests.{eqb-true, eqb-false, eq-eqb, ne-eqb}
 use Rattle.foundations.specs.Members.{mem}
-use Rattle.foundations.specs.Tests.{and-comm, or-comm}
 use Rattle.foundations.specs.Tests.{not-says, and-split}
 use Rattle.model.specs.Edges.{Joins}
-use Rattle.model.specs.Graph.{edges, joins, joined, neighbours, edgeBefore, edgeLabel}
+use Rattle.model.specs.Graph.{edges, joined, neighbours}
 use Rattle.model.specs.Order.{parent, depth, children}
-use Rattle.model.specs.Pairs.{edgePair}
 use Rattle.model.specs.Tree.{count, endA, endB, acyclic}
 use Rattle.model.specs.Weights.{Weight}
 use Rattle.trees.specs.Accepted.{Ends}
@@ -119,25 +117,6 @@ module _ (s : List ℕ) (t : IsTree s) where
   lower-all c l z =
       let q = up-edge s (t .ends) (t .loopless) c l z in
       (q .0, q .1, hangs-once (q .0) (lowerEnd s (q .0)) c (lower-hangs (q .0) (q .1)) (record { low = l; notRoot = z; joins = q .2 }))
-
--- ---- an edge is the same from both ends
-
-joins-swap : (a b x y : ℕ) → joins a b x y ≡ joins a b y x
-unfolding joins
-joins-swap a b x y = or-comm (eqb a x && eqb b y) (eqb b x && eqb a y) ∙ ap (λ (t : Bool). t || (eqb a x && eqb b y)) (and-comm (eqb b x) (eqb a y)) ∙ ap (λ (t : Bool). (eqb a y && eqb b x) || t) (and-comm (eqb a x) (eqb b y))
-
-before-swap : (s : List ℕ) (n x y k : ℕ) → edgeBefore s n x y k ≡ edgeBefore s n y x k
-unfolding edgeBefore
-before-swap s n x y zero = refl
-before-swap s n x y (suc k) = rw (before-swap s n x y k, joins-swap (endA s n k) (endB s n k) x y)
-
-pub label-swap : (s : List ℕ) (x y : ℕ) → edgeLabel s x y ≡ edgeLabel s y x
-unfolding edgeLabel
-label-swap s x y = rw (before-swap s (count s) x y (edges s))
-
-pub pair-swap : (table r f : List ℕ) (u x v y : ℕ) → edgePair table r f u x v y ≡ edgePair table r f x u y v
-unfolding edgePair
-pair-swap table r f u x v y = rw (label-swap r u x, label-swap f v y)
 
 -- ---- two trees and any weights
 

@@ -14,17 +14,18 @@ use Rattle.foundations.specs.Members.{del}
 use Rattle.foundations.specs.Sums.{size}
 use Rattle.foundations.specs.Tests.{true→T, and-split}
 use Rattle.model.specs.Bytes.{int32At}
-use Rattle.model.specs.Graph.{neighbours, edgeOf, edgeLabel}
+use Rattle.model.specs.Graph.{neighbours, edgeLabel}
 use Rattle.model.specs.Limits.{weightLimit, forbiddenRank, ceiling, vertexLimit}
 use Rattle.model.specs.Mapping.{partner, mapped, IsMapping, weight}
 use Rattle.model.specs.Order.{parent, depth, children}
-use Rattle.model.specs.Pairs.{apart, vertexPair, edgePair}
+use Rattle.model.specs.Pairs.{apart, directionsAgree, vertexPair, edgePair}
 use Rattle.model.specs.Table.{vertexRow, edgeRow, column, vertexWeight, edgeWeight}
 use Rattle.model.specs.Tree.{count, vertexLabel, serial}
 use Rattle.model.specs.Values.{best, branch, valueFrom, Subproblem, value}
 use Rattle.model.specs.Weights.{isForbidden, inRange, weightOk, Weight, none, some, weighed, plusW}
-use Rattle.trees.specs.Accepted.{Passed, vertex-known, edge-known}
-use Rattle.trees.specs.Neighbours.{Adjacent, adjacent-back, mem-adjacent, edge-joins}
+use Rattle.trees.specs.Accepted.{vertex-known}
+use Rattle.trees.specs.Directions.{label-known}
+use Rattle.trees.specs.Neighbours.{Adjacent, adjacent-back, mem-adjacent}
 use Rattle.trees.specs.Rooted.{up-edge}
 use Rattle.formats.specs.Inputs.{Accepted}
 use Rattle.subtrees.specs.Accepted.{recorded-tree, found-tree}
@@ -56,15 +57,14 @@ not-forbidden (negsuc n) h = ne-eqb n forbiddenRank (λ e. omega int)
 pos-le : (a b : ℕ) → a ≤ b → pos a ≤ℤ pos b
 pos-le a b h = leZ-yes (le→leb a b h)
 
--- the label of an edge is in the table
-label-known : (s : List ℕ) (K L x y : ℕ) → Passed s K L → Adjacent s x y → edgeLabel s x y < L
-unfolding edgeLabel
-label-known s K L x y p a = edge-known s K L (edgeOf s x y) p (edge-joins s x y a .0)
-
 -- a number that is given unless it is forbidden
 unless-none : (t : Bool) (w : Weight) (z : ℤ) → cond t none w ≡ some z → w ≡ some z
 unless-none true w z e = absurd (none≢some z e)
 unless-none false w z e = e
+
+if-some : (t : Bool) (w : Weight) (z : ℤ) → cond t w none ≡ some z → w ≡ some z
+if-some true w z e = e
+if-some false w z e = absurd (none≢some z e)
 
 module _ (table r f : List ℕ) (A : Accepted table r f) where
   abbrev tr : IsTree r
@@ -85,7 +85,8 @@ module _ (table r f : List ℕ) (A : Accepted table r f) where
   pub edge-range : (u c v x : ℕ) → Adjacent r u c → Adjacent f v x → (z : ℤ) → edgePair table r f u c v x ≡ some z → (negℤ (pos weightLimit) ≤ℤ z) × (z ≤ℤ pos weightLimit)
   unfolding edgePair edgeWeight
   edge-range u c v x a b z e = weighed-range (int32At table (column (edgeRow table (edgeLabel r u c)) (edgeLabel f v x))) z
-      (A .weights .edge-ok (edgeLabel r u c) (edgeLabel f v x) (label-known r _ _ u c (A .recorded) a) (label-known f _ _ v x (A .found) b)) e
+      (A .weights .edge-ok (edgeLabel r u c) (edgeLabel f v x) (label-known r _ _ (A .recorded) u c a) (label-known f _ _ (A .found) v x b))
+      (if-some (directionsAgree r f u c v x) _ z e)
 
   range-size : (z : ℤ) → (negℤ (pos weightLimit) ≤ℤ z) × (z ≤ℤ pos weightLimit) → size z ≤ weightLimit
   range-size z h = omega (int, canon z, h .0, h .1)

@@ -10,7 +10,7 @@ use lib.Dec.{eqb, ltb, leb}
 use borrow.Author.Tests.{eqb-true, eqb-false, eq-eqb, ltb-true, leb-true}
 use Rattle.foundations.specs.Tests.{and-split, not-says, is-false}
 use Rattle.foundations.specs.Lists.{every, every-at, every-fails}
-use Rattle.model.specs.Limits.{vertexLimit}
+use Rattle.model.specs.Limits.{edgeLabelLimit, vertexLimit}
 use Rattle.model.specs.Edges.{Closes, component}
 use Rattle.model.specs.Tree.{count, withSerials, vertexSize, treeSize, vertexLabel, endA, endB, edgeLabelAt, sized, marked, labelsKnown, endsLow, closes, acyclic, fewEdges, serialsDiffer, treeItems, treeItem}
 use Rattle.trees.specs.Items.{Numbered, end, more, first-zero}
@@ -119,10 +119,11 @@ pub record Passed (s : List ℕ) (K L : ℕ) : Type 0 where
   pub degrees : fewEdges s (count s) ≡ true
   pub serials : serialsDiffer s (count s) ≡ true
 
--- a tree that passes for some numbers of labels
+-- a tree that passes for some numbers of labels, as a table has them
 pub record Sound (s : List ℕ) : Type 0 where
   pub K : ℕ
   pub L : ℕ
+  pub few-labels : L ≤ edgeLabelLimit
   pub passed : Passed s K L
 
 pub tree-numbered : (first twice : ℕ) (s : List ℕ) (K L : ℕ) → 1 ≤ first → 1 ≤ twice → Numbered (treeItems first twice s K L)

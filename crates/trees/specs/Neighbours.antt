@@ -19,7 +19,7 @@ use Rattle.foundations.specs.Members.{mem, Distinct, mem-below, below-mem, dist
 use Rattle.model.specs.Limits.{vertexLimit, degreeLimit, noVertex}
 use Rattle.model.specs.Edges.{Joins, component}
 use Rattle.model.specs.Tree.{count, endA, endB, degree, acyclic, fewEdges}
-use Rattle.model.specs.Graph.{edges, joins, joinedBy, joined, neighbours, edgeBefore, edgeOf, inPlaces, neighbourTable, edgeLabel, labelOfPlace, edgeLabelTable}
+use Rattle.model.specs.Graph.{edges, joins, joinedBy, joined, neighbours, edgeBefore, edgeOf, inPlaces, neighbourTable}
 use Rattle.trees.specs.Components.{Fresh, AllFresh, Low, component-joins}
 use Rattle.trees.specs.Rooting.{Adj}
 use Rattle.trees.specs.Accepted.{Ends, Passed, acyclic-fresh}
@@ -155,7 +155,7 @@ module _ (s : List ℕ) (K L : ℕ) (p : Passed s K L) where
       getD-tab (λ x. inPlaces (neighbours s x)) vertexLimit v [] (let f : count s ≤ vertexLimit = p .ends .few in omega arith)
       ∙ places-fit degreeLimit noVertex (neighbours s v) (few-neighbours v l)
 
-  -- place by place: a neighbour, then none; and in the same places the labels of the edges
+  -- place by place: a neighbour, then none
   pub neighbour-at : (v i : ℕ) → v < count s → i < length (neighbours s v) → getD (getD (neighbourTable s) v []) i 0 ≡ getD (neighbours s v) i 0
   neighbour-at v i lv l = rw (neighbour-row v lv) (List·getD-append (neighbours s v) (replicate (degreeLimit - length (neighbours s v)) noVertex) 0 i l)
 
@@ -166,21 +166,6 @@ module _ (s : List ℕ) (K L : ℕ) (p : Passed s K L) where
       rw (neighbour-row v lv) (ap (λ (k : ℕ). getD (neighbours s v ++ replicate (degreeLimit - length (neighbours s v)) noVertex) k 0) (sym e)
       ∙ getD-append-add (neighbours s v) (replicate (degreeLimit - length (neighbours s v)) noVertex) (i - length (neighbours s v)) 0
       ∙ getD-replicate (degreeLimit - length (neighbours s v)) (i - length (neighbours s v)) noVertex 0 (omega arith))
-
-  pub label-at : (v i : ℕ) → v < count s → i < length (neighbours s v) → getD (getD (edgeLabelTable s) v []) i 0 ≡ edgeLabel s v (getD (neighbours s v) i 0)
-  unfolding edgeLabelTable labelOfPlace
-  label-at v i lv l =
-      let few : length (neighbours s v) ≤ degreeLimit = few-neighbours v lv in
-      let f : count s ≤ vertexLimit = p .ends .few in
-      let w : getD (inPlaces (neighbours s v)) i 0 ≡ getD (neighbours s v) i 0 = rw (places-fit degreeLimit noVertex (neighbours s v) few) (List·getD-append (neighbours s v) (replicate (degreeLimit - length (neighbours s v)) noVertex) 0 i l) in
-      let m : getD (neighbours s v) i 0 < count s = mem-adjacent s v (getD (neighbours s v) i 0) (getD-mem (neighbours s v) i l) .0 in
-      ap (λ (y : List ℕ). getD y i 0) (getD-tab (λ x. tab (λ k. labelOfPlace s x (getD (inPlaces (neighbours s x)) k 0)) degreeLimit) vertexLimit v [] (omega arith))
-      ∙ getD-tab (λ k. labelOfPlace s v (getD (inPlaces (neighbours s v)) k 0)) degreeLimit i 0 (omega arith)
-      ∙ ap (λ (y : ℕ). labelOfPlace s v y) w
-      ∙ rw (ne-eqb (getD (neighbours s v) i 0) noVertex (λ e. off m e))
-    where
-      off : {x : ℕ} → x < count s → x ≡ noVertex → ⊥
-      off l e = let f : count s ≤ vertexLimit = p .ends .few in omega arith
 
 -- ---- the edge between two vertices
 

@@ -29,14 +29,14 @@ cast-vertex c = search needs
 array-write-vertex : tie.Need-array-write-vertex Inv-loop μ-loop
 array-write-vertex c = search needs
 
-array-read-label : tie.Need-array-read-label Inv-loop μ-loop
-array-read-label c = search needs
+array-read-edge : tie.Need-array-read-edge Inv-loop μ-loop
+array-read-edge c = search needs
 
-cast-label : tie.Need-cast-label Inv-loop μ-loop
-cast-label c = search needs
+cast-edge : tie.Need-cast-edge Inv-loop μ-loop
+cast-edge c = search needs
 
-array-write-label : tie.Need-array-write-label Inv-loop μ-loop
-array-write-label c = search needs
+array-write-edge : tie.Need-array-write-edge Inv-loop μ-loop
+array-write-edge c = search needs
 
 cast-at : tie.Need-cast-at Inv-loop μ-loop
 cast-at c = search needs
@@ -51,7 +51,7 @@ loop-again : tie.Need-loop-again Inv-loop μ-loop
 loop-again c =
     let l = c .before .before .before in
     let a = l .before .args in
-    (omega arith, children-more _ _ _ (a .own) (l .loop .i) (l .loop .c) (l .loop .label) (l .loop .at) (l .loop .vertex) _ (c .before .place-or .result) _ (c .next .result) (omega arith) (l .loop .inv .1) refl (c .before .place-or .ensures) refl (c .next .ensures))
+    (omega arith, children-more _ _ _ (a .own) (l .loop .i) (l .loop .c) (l .loop .edge) (l .loop .at) (l .loop .vertex) _ (c .before .place-or .result) _ (c .next .result) (omega arith) (l .loop .inv .1) refl (c .before .place-or .ensures) refl (c .next .ensures))
 
 returns : tie.Need-returns Inv-loop μ-loop
 returns c = let e : c .before .loop .i ≡ degreeLimit = omega arith in rw e at (c .before .loop .inv .1)
@@ -67,9 +67,9 @@ children-spec =
     place-or-requires
     cast-vertex
     array-write-vertex
-    array-read-label
-    cast-label
-    array-write-label
+    array-read-edge
+    cast-edge
+    array-write-edge
     cast-at
     array-write-at
     next-requires

@@ -8,8 +8,8 @@ use Rattle.planning.proofs.plan_found.Tie as tie
 neighbour-table-requires : tie.Need-neighbour-table-requires
 neighbour-table-requires c κs = search needs
 
-edge-label-table-requires : tie.Need-edge-label-table-requires
-edge-label-table-requires c κs = search needs
+edge-table-requires : tie.Need-edge-table-requires
+edge-table-requires c κs = search needs
 
 starts-requires : tie.Need-starts-requires
 starts-requires c κs = search needs
@@ -28,7 +28,7 @@ plan-found-spec =
     tie.close
     (tie.spec
     neighbour-table-requires
-    edge-label-table-requires
+    edge-table-requires
     starts-requires
     store-found-requires
     store-vertices-requires

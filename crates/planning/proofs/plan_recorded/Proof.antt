@@ -7,8 +7,8 @@ use Rattle.planning.proofs.plan_recorded.Tie as tie
 neighbour-table-requires : tie.Need-neighbour-table-requires
 neighbour-table-requires c κs = search needs
 
-edge-label-table-requires : tie.Need-edge-label-table-requires
-edge-label-table-requires c κs = search needs
+edge-table-requires : tie.Need-edge-table-requires
+edge-table-requires c κs = search needs
 
 postorder-requires : tie.Need-postorder-requires
 postorder-requires c κs = search needs
@@ -24,10 +24,10 @@ store-recorded-requires : tie.Need-store-recorded-requires
 store-recorded-requires c κs =
     let at-places = c .before .before .before .before .before in
     let at-postorder = at-places .before .before in
-    let at-labels = at-postorder .before .before in
-    let at-neighbours = at-labels .before .before .before in
+    let at-edges = at-postorder .before .before in
+    let at-neighbours = at-edges .before .before .before in
     let a = at-neighbours .before .before in
-    (a .pre .0, recorded-read (a .pre .1) (at-neighbours .neighbour-table .ensures) (at-postorder .postorder .ensures) _ _ (at-labels .edge-label-table .ensures) (at-places .places .ensures))
+    (a .pre .0, recorded-read (a .pre .1) (at-neighbours .neighbour-table .ensures) (at-postorder .postorder .ensures) _ _ (at-edges .edge-table .ensures) (at-places .places .ensures))
 
 store-vertices-requires : tie.Need-store-vertices-requires
 store-vertices-requires c κs = search needs
@@ -40,7 +40,7 @@ plan-recorded-spec =
     tie.close
     (tie.spec
     neighbour-table-requires
-    edge-label-table-requires
+    edge-table-requires
     postorder-requires
     places-requires
     store-recorded-requires

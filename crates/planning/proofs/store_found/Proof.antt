@@ -52,14 +52,14 @@ element-copy-out-head c = search needs
 array-write-head-2 : tie.Need-array-write-head-2 Inv-loop μ-loop
 array-write-head-2 c = search needs
 
-add-label : tie.Need-add-label Inv-loop μ-loop
-add-label c = search needs
+add-edge : tie.Need-add-edge Inv-loop μ-loop
+add-edge c = search needs
 
-mul-label : tie.Need-mul-label Inv-loop μ-loop
-mul-label c = search needs
+mul-edge : tie.Need-mul-edge Inv-loop μ-loop
+mul-edge c = search needs
 
-element-set-from-label : tie.Need-element-set-from-label Inv-loop μ-loop
-element-set-from-label c = search needs
+element-set-from-edge : tie.Need-element-set-from-edge Inv-loop μ-loop
+element-set-from-edge c = search needs
 
 add-row : tie.Need-add-row Inv-loop μ-loop
 add-row c = search needs
@@ -70,20 +70,20 @@ mul-row-2 c = search needs
 element-set-from-row : tie.Need-element-set-from-row Inv-loop μ-loop
 element-set-from-row c = search needs
 
-mul-label-2 : tie.Need-mul-label-2 Inv-loop μ-loop
-mul-label-2 c = search needs
+mul-edge-2 : tie.Need-mul-edge-2 Inv-loop μ-loop
+mul-edge-2 c = search needs
 
-element-copy-out-label : tie.Need-element-copy-out-label Inv-loop μ-loop
-element-copy-out-label c = search needs
+element-copy-out-edge : tie.Need-element-copy-out-edge Inv-loop μ-loop
+element-copy-out-edge c = search needs
 
-add-label-2 : tie.Need-add-label-2 Inv-loop μ-loop
-add-label-2 c = search needs
+add-edge-2 : tie.Need-add-edge-2 Inv-loop μ-loop
+add-edge-2 c = search needs
 
-mul-label-3 : tie.Need-mul-label-3 Inv-loop μ-loop
-mul-label-3 c = search needs
+mul-edge-3 : tie.Need-mul-edge-3 Inv-loop μ-loop
+mul-edge-3 c = search needs
 
-element-set-from-label-2 : tie.Need-element-set-from-label-2 Inv-loop μ-loop
-element-set-from-label-2 c = search needs
+element-set-from-edge-2 : tie.Need-element-set-from-edge-2 Inv-loop μ-loop
+element-set-from-edge-2 c = search needs
 
 add-back : tie.Need-add-back Inv-loop μ-loop
 add-back c = search needs
@@ -124,17 +124,17 @@ store-found-spec =
     array-write-head
     element-copy-out-head
     array-write-head-2
-    add-label
-    mul-label
-    element-set-from-label
+    add-edge
+    mul-edge
+    element-set-from-edge
     add-row
     mul-row-2
     element-set-from-row
-    mul-label-2
-    element-copy-out-label
-    add-label-2
-    mul-label-3
-    element-set-from-label-2
+    mul-edge-2
+    element-copy-out-edge
+    add-edge-2
+    mul-edge-3
+    element-set-from-edge-2
     add-back
     mul-back
     element-set-from-back

@@ -92,14 +92,14 @@ mul-vertex c = search needs
 element-set-from-vertex : tie.Need-element-set-from-vertex Inv-loop μ-loop
 element-set-from-vertex c = search needs
 
-add-label : tie.Need-add-label Inv-loop μ-loop
-add-label c = search needs
+add-edge : tie.Need-add-edge Inv-loop μ-loop
+add-edge c = search needs
 
-mul-label : tie.Need-mul-label Inv-loop μ-loop
-mul-label c = search needs
+mul-edge : tie.Need-mul-edge Inv-loop μ-loop
+mul-edge c = search needs
 
-element-set-from-label : tie.Need-element-set-from-label Inv-loop μ-loop
-element-set-from-label c = search needs
+element-set-from-edge : tie.Need-element-set-from-edge Inv-loop μ-loop
+element-set-from-edge c = search needs
 
 add-at : tie.Need-add-at Inv-loop μ-loop
 add-at c = search needs
@@ -165,9 +165,9 @@ store-recorded-spec =
     add-vertex
     mul-vertex
     element-set-from-vertex
-    add-label
-    mul-label
-    element-set-from-label
+    add-edge
+    mul-edge
+    element-set-from-edge
     add-at
     mul-at
     element-set-from-at

@@ -5,11 +5,11 @@ use mathlib.Core.Logic.{inl, inr}
 use native.Mathlib.Omega.{arith}
 use lib.ListN.{getD, length}
 use Rattle.foundations.specs.Machine.{Same}
-use Rattle.model.specs.Graph.{edgeLabel}
 use Rattle.model.specs.Tree.{count, endA, endB, edgeLabelAt}
+use Rattle.trees.specs.Directions.{EdgeSeen}
 use Rattle.trees.specs.Neighbours.{Adjacent}
 use Rattle.plan.specs.Plan.{neighbourEdgeIn}
-use Rattle.mappings.specs.Slots.{slot-asks, slot-some, slot-low, slot-label}
+use Rattle.mappings.specs.Slots.{slot-asks, slot-some, slot-low, slot-edge}
 use Rattle.mappings.specs.WeighLaws.{ends-in, edge-none, edge-some, edge-labels, a-low, adjacent}
 use borrow.Author.Needs.{needs}
 use Rattle.mappings.proofs.weigh.edge_term.Statement.{statement}
@@ -63,7 +63,7 @@ module _ (c : tie.Else2) where
   beside : Adjacent (s both .args .found .now) A B
   beside = adjacent _ _ _ _ (s both .pre .0) (s both .args .j) _ _ (s both .pre .1 .1) (ea both) (eb both) (c .before .if1 .left) (c .if2 .left)
 
--- the place of one among the other's neighbours, and the label there
+-- the place of one among the other's neighbours, and the edge there
 module _ (c : tie.After-slot) where
   abbrev t : tie.After-partner-of2
   t = both (c .before)
@@ -71,8 +71,8 @@ module _ (c : tie.After-slot) where
   some : 1 ≤ c .slot .result
   some = slot-some (s t .pre .1 .0) (a-found (c .before)) (c .slot .ensures) (beside (c .before))
 
-  k-is : neighbourEdgeIn (s t .args .plan .now) (A (c .before)) (c .slot .result - 1) ≡ edgeLabel (s t .args .found .now) (A (c .before)) (B (c .before))
-  k-is = slot-label (s t .pre .1 .0) (a-found (c .before)) (c .slot .ensures) some
+  k-seen : EdgeSeen (s t .args .found .now) (A (c .before)) (B (c .before)) (neighbourEdgeIn (s t .args .plan .now) (A (c .before)) (c .slot .result - 1))
+  k-seen = slot-edge (s t .pre .1 .0) (a-found (c .before)) (c .slot .ensures) some
 
 l-is : (c : tie.After-edge-label-at) → c .edge-label-at .result ≡ edgeLabelAt (s (t (c .before)) .args .recorded .now) (count (s (t (c .before)) .args .recorded .now)) (s (t (c .before)) .args .j)
 l-is c = c .edge-label-at .ensures ∙ ap (λ (n : ℕ). edgeLabelAt (s (t (c .before)) .args .recorded .now) n (s (t (c .before)) .args .j)) (t (c .before) .before .before .before .before .vertex-count .ensures)
@@ -118,9 +118,8 @@ edge-pair-requires c κs =
     let d = c .before .before in
     let e = d .before in
     let b = s (t d) in
-    let h = edge-labels _ _ _ _ (b .pre .0) (b .args .j) _ _ (b .pre .1 .1) (ea (t d)) (eb (t d)) (e .before .if1 .left) (e .if2 .left) _ (c .neighbour-edge .ensures ∙ k-is d) in
-    let l = l-is (c .before) in
-    (b .pre .0 .accepted .weights, (omega (arith, h .0, h .1, l), omega (arith, h .0, h .1, l)))
+    let h = edge-labels _ _ _ _ (b .pre .0) (b .args .j) _ _ (b .pre .1 .1) (ea (t d)) (eb (t d)) (e .before .if1 .left) (e .if2 .left) (c .neighbour-edge .result) (rw (c .neighbour-edge .ensures) (k-seen d)) in
+    (b .pre .0 .accepted .weights, (rw (l-is (c .before)) (h .0), h .1))
 
 returns-3 : tie.Need-returns-3
 returns-3 c =
@@ -129,7 +128,7 @@ returns-3 c =
     let e = d .before in
     let b = s (t d) in
     let w : Same (c .edge-pair .result) = search needs in
-    rw w (edge-some _ _ _ _ (b .pre .0) (b .args .j) _ _ (b .pre .1 .1) (ea (t d)) (eb (t d)) (e .before .if1 .left) (e .if2 .left) (c .before .neighbour-edge .result) (c .edge-pair .result) (c .before .neighbour-edge .ensures ∙ k-is d) (rw (l-is l) at (c .edge-pair .ensures)))
+    rw w (edge-some _ _ _ _ (b .pre .0) (b .args .j) _ _ (b .pre .1 .1) (ea (t d)) (eb (t d)) (e .before .if1 .left) (e .if2 .left) (c .before .neighbour-edge .result) (c .edge-pair .result) (rw (c .before .neighbour-edge .ensures) (k-seen d)) (rw (l-is l) at (c .edge-pair .ensures)))
 
 pub edge-term-spec : {M : Type 1} → statement M
 edge-term-spec =

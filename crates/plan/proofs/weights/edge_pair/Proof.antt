@@ -1,7 +1,7 @@
 -- `edge_pair` meets its contract. Assumes nothing.
 use borrow.Author.Needs.{needs}
-use Rattle.foundations.specs.Machine.{Same}
-use Rattle.plan.specs.Pairs.{edge-pair}
+use Rattle.foundations.specs.Machine.{Same, back}
+use Rattle.plan.specs.Pairs.{pair-along, pair-against}
 use Rattle.plan.proofs.weights.edge_pair.Statement.{statement}
 use Rattle.plan.proofs.weights.edge_pair.Tie as tie
 
@@ -10,9 +10,13 @@ edge-weight-at-requires c κs = search needs
 
 returns : tie.Need-returns
 returns c =
-    let p = c .before .before .pre in
-    let b : Same (c .edge-weight-at .result) = search needs in
-    rw b (edge-pair _ (p .0) _ _ _ (p .1 .0) (p .1 .1) (c .edge-weight-at .ensures))
+    let at = c .before in
+    let p = at .before .before .pre in
+    let b : Same (at .edge-weight-at .result) = back (at .edge-weight-at .ok) in
+    rw b (pair-along _ (p .0) _ _ _ (p .1 .0) (p .1 .1) (c .if1 .taken) (at .edge-weight-at .ensures))
+
+returns-2 : tie.Need-returns-2
+returns-2 c = pair-against _ _ _ (c .if1 .left)
 
 pub edge-pair-spec : {M : Type 1} → statement M
-edge-pair-spec = tie.close (tie.spec edge-weight-at-requires returns)
+edge-pair-spec = tie.close (tie.spec edge-weight-at-requires returns returns-2)
