@@ -43,7 +43,8 @@ fn run(input: &[u8], bytes: &mut [u8], work: &mut [i32], mapping: &mut [u8]) {
 }
 
 fn main() {
-    let mut input = io::large_buffer();
+    // the stored input has more bytes than `io::large_buffer`
+    let mut input = [0u8; 131072];
     let n = io::read_full(0, &mut input);
     let mut bytes = [0u8; 8192];
     let mut work = [0i32; Limits::SUBPROBLEMS];

@@ -11,18 +11,18 @@ use Rattle.foundations.specs.Sums.{sumℤ}
 use Rattle.model.specs.Bytes.{signed32, bits32}
 use Rattle.model.specs.Calls.{inputItem}
 use Rattle.model.specs.Edges.{component, parentIn}
-use Rattle.model.specs.Graph.{joins, joinedBy, neighbours, edgeBefore, edgeLabel}
+use Rattle.model.specs.Graph.{joins, joinedBy, neighbours, edgeBefore, edgeLabel, directed, upstream}
 use Rattle.model.specs.Limits.{forbidden}
 use Rattle.model.specs.Mapping.{mapped, num, vertexPairs, edgePairs, weight, allowed, parentMapped, vertexOk, edgeOk, isTop, mappingOk}
 use Rattle.model.specs.Order.{parent, children}
-use Rattle.model.specs.Pairs.{apart, vertexPair, edgePair}
+use Rattle.model.specs.Pairs.{apart, sameWay, directionsAgree, vertexPair, edgePair}
 use Rattle.model.specs.Refusals.{firstOf}
 use Rattle.model.specs.Table.{vertexWeight, edgeWeight, tableSized, tableMarked, rowOk, weightsOk}
 use Rattle.model.specs.Tree.{withSerials, vertexMarkOf, vertexSize, serial, serialNew, serialsDiffer, sized, marked, labelsKnown, endsLow, closes, acyclic, degree, fewEdges}
 use Rattle.model.specs.Values.{greatest, best, valueFrom, valueTo, value, largest, answer}
 use Rattle.model.specs.Weights.{isForbidden, inRange, weightOk, weighed}
 use Rattle.cases.specs.Expected.{weighs, refused, Row, plant, All, end, _then_, by-test}
-use Rattle.cases.specs.Plants.{wordBytes, weights, rows, tableOf, vertexBytes, edge, edgesOf, treeOf, path, tableP, table7, tableOne, most, least, tooGreat, tooLow, nearForbidden}
+use Rattle.cases.specs.Plants.{wordBytes, weights, rows, tableOf, vertexBytes, edgeBy, edge, edgesOf, treeOf, path, tableP, table7, tableOne, most, least, tooGreat, tooLow, nearForbidden}
 
 -- pair (0,0) 5, others forbidden; edge weight -1
 unfoldable pub tableLow : List ℕ
@@ -60,7 +60,7 @@ furtherPlants =
     ∷ []
 
 pub further-plants : All furtherPlants
-unfolding wordBytes weights rows tableOf vertexBytes edge edgesOf treeOf path tableP table7 tableOne tableLow tableUneven inputItem firstOf tableSized tableMarked weightsOk rowOk weightOk isForbidden inRange vertexWeight edgeWeight weighed sized marked labelsKnown endsLow closes acyclic degree fewEdges withSerials vertexMarkOf vertexSize serial serialNew serialsDiffer component joins joinedBy neighbours edgeBefore edgeLabel parent parentIn children vertexPair apart edgePair mapped num vertexPairs edgePairs weight allowed parentMapped vertexOk edgeOk isTop mappingOk greatest best valueFrom valueTo value largest answer signed32 bits32 every below mem del sumℤ cnt cat
+unfolding wordBytes weights rows tableOf vertexBytes edgeBy edge edgesOf treeOf path tableP table7 tableOne tableLow tableUneven inputItem firstOf tableSized tableMarked weightsOk rowOk weightOk isForbidden inRange vertexWeight edgeWeight weighed sized marked labelsKnown endsLow closes acyclic degree fewEdges withSerials vertexMarkOf vertexSize serial serialNew serialsDiffer component joins joinedBy neighbours edgeBefore edgeLabel parent parentIn children vertexPair apart directed upstream sameWay directionsAgree edgePair mapped num vertexPairs edgePairs weight allowed parentMapped vertexOk edgeOk isTop mappingOk greatest best valueFrom valueTo value largest answer signed32 bits32 every below mem del sumℤ cnt cat
 further-plants =
     by-test refl refl refl refl
     then by-test refl refl refl refl

@@ -1,4 +1,4 @@
--- Plants written as bytes, the table of small plants, what else the definitions compute of such plants, the limits, and serials.
+-- Plants written as bytes, the table of small plants, what else the definitions compute of such plants, the limits, serials, and directed edges.
 pub mod Plants
 pub mod Expected
 pub mod SmallPlants
@@ -8,3 +8,4 @@ pub mod CertificateCases
 pub mod SizesCases
 pub mod LimitCases
 pub mod SerialCases
+pub mod DirectionCases

@@ -23,13 +23,16 @@ rows mark (zs ∷ l) = 0xB1 ∷ mark ∷ weights zs ++ rows mark l
 unfoldable pub tableOf : List (List ℤ) → List (List ℤ) → List ℕ
 tableOf vertexRows edgeRows = 0xB1 ∷ 0x04 ∷ length vertexRows ∷ length edgeRows ∷ rows 0x05 vertexRows ++ rows 0x06 edgeRows
 
--- ---- a tree by its labels, and by the ends of its edges, which have label 0
+-- ---- a tree by its labels, and by the ends of its edges, which have label 0 where no other is given
 
 unfoldable pub vertexBytes : List ℕ → List ℕ
 vertexBytes labels = 0xB1 ∷ 0x01 ∷ length labels ∷ cat (λ k. 0xB1 ∷ 0x02 ∷ k ∷ []) labels
 
+unfoldable pub edgeBy : ℕ → ℕ → ℕ → List ℕ
+edgeBy label a b = 0xB1 ∷ 0x03 ∷ a ∷ b ∷ label ∷ []
+
 unfoldable pub edge : ℕ → ℕ → List ℕ
-edge a b = 0xB1 ∷ 0x03 ∷ a ∷ b ∷ 0 ∷ []
+edge a b = edgeBy 0 a b
 
 -- vertex v, v + 1, .. joined to an earlier vertex each
 unfoldable pub edgesOf : ℕ → List ℕ → List ℕ

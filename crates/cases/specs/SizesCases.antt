@@ -17,7 +17,7 @@ use Rattle.model.specs.Table.{tableSized, tableMarked, rowOk, weightsOk}
 use Rattle.model.specs.Tree.{withSerials, vertexMarkOf, vertexSize, serial, serialNew, serialsDiffer, sized, marked, labelsKnown, endsLow, closes, acyclic, degree, fewEdges}
 use Rattle.model.specs.Weights.{isForbidden, inRange, weightOk}
 use Rattle.cases.specs.Expected.{told, Row, plant, All, end, _then_}
-use Rattle.cases.specs.Plants.{wordBytes, weights, rows, tableOf, vertexBytes, edge, edgesOf, treeOf, path, star, three, tableP, table7, certificate1}
+use Rattle.cases.specs.Plants.{wordBytes, weights, rows, tableOf, vertexBytes, edgeBy, edge, edgesOf, treeOf, path, star, three, tableP, table7, certificate1}
 
 abbrev pub sizesPlants : List Row
 sizesPlants =
@@ -40,7 +40,7 @@ sizesPlants =
     ∷ []
 
 pub sizes-cases : All sizesPlants
-unfolding wordBytes weights rows tableOf vertexBytes edge edgesOf treeOf path star three tableP table7 inputItem firstOf tableSized tableMarked weightsOk rowOk weightOk isForbidden inRange sized marked labelsKnown endsLow closes acyclic degree fewEdges withSerials vertexMarkOf vertexSize serial serialNew serialsDiffer component joins joinedBy neighbours signed32 bits32 every below cat squares certificateLength width subproblems sizesOf
+unfolding wordBytes weights rows tableOf vertexBytes edgeBy edge edgesOf treeOf path star three tableP table7 inputItem firstOf tableSized tableMarked weightsOk rowOk weightOk isForbidden inRange sized marked labelsKnown endsLow closes acyclic degree fewEdges withSerials vertexMarkOf vertexSize serial serialNew serialsDiffer component joins joinedBy neighbours signed32 bits32 every below cat squares certificateLength width subproblems sizesOf
 sizes-cases =
     refl
     then refl
