@@ -18,6 +18,11 @@
  * A recorded and a found vertex whose serials are both known (not 0) and differ are a forbidden pair, whatever the
  * table says.
  *
+ * An edge with label PENSUMMER_DIRECTED_FROM or greater is directed (paper 02, [6]): it runs from the end that is
+ * written first, upstream, to the other. It pairs only with a directed edge, upstream end with upstream end; any other
+ * pair of a directed edge is forbidden, whatever the table says. Which end of any other edge is written first carries
+ * no meaning.
+ *
  * Work numbers, and the mapping or certificate that a call writes, may have more room than needed: what lies behind is
  * left as it was. A table, a tree, and a certificate that is checked are refused if their count is not exactly their
  * length: to check what was written, pass the length that was given back.
@@ -46,6 +51,8 @@ extern "C" {
 #define PENSUMMER_VERTEX_LABELS_MOST 32
 /* A table has no more edge labels (L). */
 #define PENSUMMER_EDGE_LABELS_MOST 8
+/* An edge with this label or a greater one is directed. */
+#define PENSUMMER_DIRECTED_FROM 4
 /* A weight is no greater, and no less than its negative, unless it is the forbidden number. */
 #define PENSUMMER_WEIGHT_MOST 16000000
 /* No value is greater and no mapping is heavier: the greatest weight for every vertex and edge of a tree. */

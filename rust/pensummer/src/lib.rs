@@ -30,6 +30,9 @@ pub const DEGREE_MOST: usize = 8;
 pub const VERTEX_LABELS_MOST: usize = 32;
 /// A table has no more edge labels.
 pub const EDGE_LABELS_MOST: usize = 8;
+/// An edge with this label or a greater one is directed: it runs from the end written first, upstream, to the other,
+/// and pairs only with a directed edge, upstream end with upstream end.
+pub const DIRECTED_FROM: usize = 4;
 /// A weight is no greater, and no less than the negative of this, unless it is [`FORBIDDEN`].
 pub const WEIGHT_MOST: i32 = 16_000_000;
 /// No value is greater and no mapping is heavier: the greatest weight for every vertex and edge of a tree.

@@ -19,11 +19,12 @@ const ITEMS: [(&str, Refusal); 26] = named! {
     RECORDED_SERIAL FOUND_SERIAL
 };
 
-const LIMITS: [(&str, i64); 12] = [
+const LIMITS: [(&str, i64); 13] = [
     ("VERTICES_MOST", pensummer::VERTICES_MOST as i64),
     ("DEGREE_MOST", pensummer::DEGREE_MOST as i64),
     ("VERTEX_LABELS_MOST", pensummer::VERTEX_LABELS_MOST as i64),
     ("EDGE_LABELS_MOST", pensummer::EDGE_LABELS_MOST as i64),
+    ("DIRECTED_FROM", pensummer::DIRECTED_FROM as i64),
     ("WEIGHT_MOST", pensummer::WEIGHT_MOST as i64),
     ("VALUE_MOST", pensummer::VALUE_MOST as i64),
     ("FORBIDDEN", pensummer::FORBIDDEN as i64),

@@ -119,7 +119,8 @@ edge-pair-requires c κs =
     let e = d .before in
     let b = s (t d) in
     let h = edge-labels _ _ _ _ (b .pre .0) (b .args .j) _ _ (b .pre .1 .1) (ea (t d)) (eb (t d)) (e .before .if1 .left) (e .if2 .left) (c .neighbour-edge .result) (rw (c .neighbour-edge .ensures) (k-seen d)) in
-    (b .pre .0 .accepted .weights, (rw (l-is (c .before)) (h .0), h .1))
+    let l = l-is (c .before) in
+    (b .pre .0 .accepted .weights, (omega (arith, h .0, h .1, l), omega (arith, h .0, h .1, l)))
 
 returns-3 : tie.Need-returns-3
 returns-3 c =
