@@ -16,7 +16,7 @@ use Rattle.model.specs.Graph.{joins, joinedBy, neighbours, edgeBefore, edgeLabe
 use Rattle.model.specs.Limits.{forbidden}
 use Rattle.model.specs.Mapping.{mapped, num, vertexPairs, edgePairs, weight, allowed, parentMapped, vertexOk, edgeOk, isTop, mappingOk}
 use Rattle.model.specs.Order.{parent, children, postorderFrom, postorder, position, width, subproblems, offset, slot, index, vertexAt, uAt, vAt, sAt}
-use Rattle.model.specs.Pairs.{apart, sameWay, directionsAgree, vertexPair, edgePair}
+use Rattle.model.specs.Pairs.{apart, sameDirection, directionsAgree, vertexPair, edgePair}
 use Rattle.model.specs.Refusals.{firstOf}
 use Rattle.model.specs.Table.{vertexWeight, edgeWeight, tableSized, tableMarked, rowOk, weightsOk}
 use Rattle.model.specs.Tree.{withSerials, vertexMarkOf, vertexSize, serial, serialNew, serialsDiffer, sized, marked, labelsKnown, endsLow, closes, acyclic, degree, fewEdges}
@@ -86,5 +86,5 @@ certificates =
     ∷ []
 
 pub certificate-cases : All certificates
-unfolding recordsOf certificateOf certificate8 certificateEnds wordBytes weights rows tableOf vertexBytes edgeBy edge edgesOf treeOf path star table8 tableOne inputItem firstOf tableSized tableMarked weightsOk rowOk weightOk isForbidden inRange vertexWeight edgeWeight weighed sized marked labelsKnown endsLow closes acyclic degree fewEdges withSerials vertexMarkOf vertexSize serial serialNew serialsDiffer component joins joinedBy neighbours edgeBefore edgeLabel parent parentIn children vertexPair apart directed upstream sameWay directionsAgree edgePair mapped num vertexPairs edgePairs weight allowed parentMapped vertexOk edgeOk isTop mappingOk greatest largest signed32 bits32 every below mem del sumℤ cnt cat checkOf shapeOk squares certificateLength recordLength recordAt mappingIn valueIn childDual otherDual valueOf eqZ atMost forbiddenOk coverOk dualsOk pairOk subproblemOk postorderFrom postorder position width subproblems offset slot index vertexAt uAt vAt sAt tab place
+unfolding recordsOf certificateOf certificate8 certificateEnds wordBytes weights rows tableOf vertexBytes edgeBy edge edgesOf treeOf path star table8 tableOne inputItem firstOf tableSized tableMarked weightsOk rowOk weightOk isForbidden inRange vertexWeight edgeWeight weighed sized marked labelsKnown endsLow closes acyclic degree fewEdges withSerials vertexMarkOf vertexSize serial serialNew serialsDiffer component joins joinedBy neighbours edgeBefore edgeLabel parent parentIn children vertexPair apart directed upstream sameDirection directionsAgree edgePair mapped num vertexPairs edgePairs weight allowed parentMapped vertexOk edgeOk isTop mappingOk greatest largest signed32 bits32 every below mem del sumℤ cnt cat checkOf shapeOk squares certificateLength recordLength recordAt mappingIn valueIn childDual otherDual valueOf eqZ atMost forbiddenOk coverOk dualsOk pairOk subproblemOk postorderFrom postorder position width subproblems offset slot index vertexAt uAt vAt sAt tab place
 certificate-cases = refl then refl then refl then refl then refl then refl then refl then refl then refl then refl then refl then refl then refl then end

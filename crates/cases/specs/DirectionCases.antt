@@ -19,7 +19,7 @@ use Rattle.model.specs.Graph.{joins, joinedBy, neighbours, edgeBefore, edgeLabe
 use Rattle.model.specs.Limits.{forbidden}
 use Rattle.model.specs.Mapping.{mapped, num, vertexPairs, edgePairs, weight, allowed, parentMapped, vertexOk, edgeOk, isTop, mappingOk}
 use Rattle.model.specs.Order.{parent, children, postorderFrom, postorder, position, width, subproblems, offset, slot, index, vertexAt, uAt, vAt, sAt}
-use Rattle.model.specs.Pairs.{apart, sameWay, directionsAgree, vertexPair, edgePair}
+use Rattle.model.specs.Pairs.{apart, sameDirection, directionsAgree, vertexPair, edgePair}
 use Rattle.model.specs.Refusals.{firstOf}
 use Rattle.model.specs.Sizes.{sizesOf}
 use Rattle.model.specs.Table.{vertexWeight, edgeWeight, tableSized, tableMarked, rowOk, weightsOk}
@@ -154,7 +154,7 @@ directionPlants =
     ∷ []
 
 pub direction-plants : All directionPlants
-unfolding wordBytes weights rows tableOf vertexBytes edgeBy edge tableP tableFlow tableEight two twoAlike down mirror certificateTwo recordsOf certificateOf sizesOf inputItem firstOf tableSized tableMarked weightsOk rowOk weightOk isForbidden inRange vertexWeight edgeWeight weighed sized marked labelsKnown endsLow closes acyclic degree fewEdges withSerials vertexMarkOf vertexSize serial serialNew serialsDiffer component joins joinedBy neighbours edgeBefore edgeLabel parent parentIn children vertexPair apart directed upstream sameWay directionsAgree edgePair mapped num vertexPairs edgePairs weight allowed parentMapped vertexOk edgeOk isTop mappingOk greatest best valueFrom valueTo value largest answer signed32 bits32 every below mem del sumℤ cnt cat checkOf shapeOk squares certificateLength recordLength recordAt mappingIn valueIn childDual otherDual valueOf eqZ atMost forbiddenOk coverOk dualsOk pairOk subproblemOk postorderFrom postorder position width subproblems offset slot index vertexAt uAt vAt sAt tab place
+unfolding wordBytes weights rows tableOf vertexBytes edgeBy edge tableP tableFlow tableEight two twoAlike down mirror certificateTwo recordsOf certificateOf sizesOf inputItem firstOf tableSized tableMarked weightsOk rowOk weightOk isForbidden inRange vertexWeight edgeWeight weighed sized marked labelsKnown endsLow closes acyclic degree fewEdges withSerials vertexMarkOf vertexSize serial serialNew serialsDiffer component joins joinedBy neighbours edgeBefore edgeLabel parent parentIn children vertexPair apart directed upstream sameDirection directionsAgree edgePair mapped num vertexPairs edgePairs weight allowed parentMapped vertexOk edgeOk isTop mappingOk greatest best valueFrom valueTo value largest answer signed32 bits32 every below mem del sumℤ cnt cat checkOf shapeOk squares certificateLength recordLength recordAt mappingIn valueIn childDual otherDual valueOf eqZ atMost forbiddenOk coverOk dualsOk pairOk subproblemOk postorderFrom postorder position width subproblems offset slot index vertexAt uAt vAt sAt tab place
 direction-plants =
     by-test refl refl refl refl
     then by-test refl refl refl refl
@@ -220,5 +220,5 @@ pub pair-order : (edgePair tableFlow (two 4 0 1) (two 4 0 1) 0 1 0 1 ≡ some (p
     × (edgePair tableFlow (two 4 0 1) (two 4 0 1) 1 0 1 0 ≡ some (pos 1))
     × (edgePair tableFlow (two 4 0 1) (two 4 0 1) 0 1 1 0 ≡ none)
     × (edgePair tableFlow (two 3 0 1) (two 3 0 1) 0 1 1 0 ≡ some (pos 1))
-unfolding wordBytes weights rows tableOf vertexBytes edgeBy tableFlow two isForbidden edgeWeight weighed withSerials vertexSize joins edgeBefore edgeLabel directed upstream sameWay directionsAgree edgePair signed32 bits32 cat
+unfolding wordBytes weights rows tableOf vertexBytes edgeBy tableFlow two isForbidden edgeWeight weighed withSerials vertexSize joins edgeBefore edgeLabel directed upstream sameDirection directionsAgree edgePair signed32 bits32 cat
 pair-order = (refl, refl, refl, refl)

@@ -15,7 +15,7 @@ use Rattle.model.specs.Graph.{joins, joinedBy, neighbours, edgeBefore, edgeLabe
 use Rattle.model.specs.Limits.{forbidden}
 use Rattle.model.specs.Mapping.{mapped, num, vertexPairs, edgePairs, weight, allowed, parentMapped, vertexOk, edgeOk, isTop, mappingOk}
 use Rattle.model.specs.Order.{parent, children}
-use Rattle.model.specs.Pairs.{apart, sameWay, directionsAgree, vertexPair, edgePair}
+use Rattle.model.specs.Pairs.{apart, sameDirection, directionsAgree, vertexPair, edgePair}
 use Rattle.model.specs.Refusals.{firstOf}
 use Rattle.model.specs.Table.{vertexWeight, edgeWeight, tableSized, tableMarked, rowOk, weightsOk}
 use Rattle.model.specs.Tree.{withSerials, vertexMarkOf, vertexSize, serial, serialNew, serialsDiffer, sized, marked, labelsKnown, endsLow, closes, acyclic, degree, fewEdges}
@@ -60,7 +60,7 @@ furtherPlants =
     ∷ []
 
 pub further-plants : All furtherPlants
-unfolding wordBytes weights rows tableOf vertexBytes edgeBy edge edgesOf treeOf path tableP table7 tableOne tableLow tableUneven inputItem firstOf tableSized tableMarked weightsOk rowOk weightOk isForbidden inRange vertexWeight edgeWeight weighed sized marked labelsKnown endsLow closes acyclic degree fewEdges withSerials vertexMarkOf vertexSize serial serialNew serialsDiffer component joins joinedBy neighbours edgeBefore edgeLabel parent parentIn children vertexPair apart directed upstream sameWay directionsAgree edgePair mapped num vertexPairs edgePairs weight allowed parentMapped vertexOk edgeOk isTop mappingOk greatest best valueFrom valueTo value largest answer signed32 bits32 every below mem del sumℤ cnt cat
+unfolding wordBytes weights rows tableOf vertexBytes edgeBy edge edgesOf treeOf path tableP table7 tableOne tableLow tableUneven inputItem firstOf tableSized tableMarked weightsOk rowOk weightOk isForbidden inRange vertexWeight edgeWeight weighed sized marked labelsKnown endsLow closes acyclic degree fewEdges withSerials vertexMarkOf vertexSize serial serialNew serialsDiffer component joins joinedBy neighbours edgeBefore edgeLabel parent parentIn children vertexPair apart directed upstream sameDirection directionsAgree edgePair mapped num vertexPairs edgePairs weight allowed parentMapped vertexOk edgeOk isTop mappingOk greatest best valueFrom valueTo value largest answer signed32 bits32 every below mem del sumℤ cnt cat
 further-plants =
     by-test refl refl refl refl
     then by-test refl refl refl refl

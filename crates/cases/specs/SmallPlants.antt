@@ -14,7 +14,7 @@ use Rattle.model.specs.Edges.{component, parentIn}
 use Rattle.model.specs.Graph.{joins, joinedBy, neighbours, edgeBefore, edgeLabel, directed, upstream}
 use Rattle.model.specs.Mapping.{mapped, num, vertexPairs, edgePairs, weight, allowed, parentMapped, vertexOk, edgeOk, isTop, mappingOk}
 use Rattle.model.specs.Order.{parent, children, postorderFrom, postorder, position, width, subproblems, offset, slot, index, vertexAt, uAt, vAt, sAt}
-use Rattle.model.specs.Pairs.{apart, sameWay, directionsAgree, vertexPair, edgePair}
+use Rattle.model.specs.Pairs.{apart, sameDirection, directionsAgree, vertexPair, edgePair}
 use Rattle.model.specs.Refusals.{firstOf}
 use Rattle.model.specs.Table.{vertexWeight, edgeWeight, tableSized, tableMarked, rowOk, weightsOk}
 use Rattle.model.specs.Tree.{withSerials, vertexMarkOf, vertexSize, serial, serialNew, serialsDiffer, sized, marked, labelsKnown, endsLow, closes, acyclic, degree, fewEdges}
@@ -43,7 +43,7 @@ smallPlants =
     ∷ []
 
 pub small-plants : All smallPlants
-unfolding wordBytes weights rows tableOf vertexBytes edgeBy edge edgesOf treeOf path star three tableP table7 table8 inputItem firstOf tableSized tableMarked weightsOk rowOk weightOk isForbidden inRange vertexWeight edgeWeight weighed sized marked labelsKnown endsLow closes acyclic degree fewEdges withSerials vertexMarkOf vertexSize serial serialNew serialsDiffer component joins joinedBy neighbours edgeBefore edgeLabel parent parentIn children vertexPair apart directed upstream sameWay directionsAgree edgePair mapped num vertexPairs edgePairs weight allowed parentMapped vertexOk edgeOk isTop mappingOk greatest best valueFrom valueTo value largest answer signed32 bits32 every below mem del sumℤ cnt cat certificate1 checkOf shapeOk squares certificateLength recordLength recordAt mappingIn valueIn childDual otherDual valueOf eqZ atMost forbiddenOk coverOk dualsOk pairOk subproblemOk postorderFrom postorder position width subproblems offset slot index vertexAt uAt vAt sAt tab place
+unfolding wordBytes weights rows tableOf vertexBytes edgeBy edge edgesOf treeOf path star three tableP table7 table8 inputItem firstOf tableSized tableMarked weightsOk rowOk weightOk isForbidden inRange vertexWeight edgeWeight weighed sized marked labelsKnown endsLow closes acyclic degree fewEdges withSerials vertexMarkOf vertexSize serial serialNew serialsDiffer component joins joinedBy neighbours edgeBefore edgeLabel parent parentIn children vertexPair apart directed upstream sameDirection directionsAgree edgePair mapped num vertexPairs edgePairs weight allowed parentMapped vertexOk edgeOk isTop mappingOk greatest best valueFrom valueTo value largest answer signed32 bits32 every below mem del sumℤ cnt cat certificate1 checkOf shapeOk squares certificateLength recordLength recordAt mappingIn valueIn childDual otherDual valueOf eqZ atMost forbiddenOk coverOk dualsOk pairOk subproblemOk postorderFrom postorder position width subproblems offset slot index vertexAt uAt vAt sAt tab place
 small-plants =
     by-test refl refl refl refl
     then by-test refl refl refl refl

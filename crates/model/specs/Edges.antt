@@ -7,7 +7,7 @@ use Prim.Native.Nat.{ℕ, zero, suc, _+_, _<_}
 use lib.Dec.{eqb}
 
 module _ (a b : ℕ → ℕ) where
-  -- edge j joins x and y; which end is written first carries no meaning
+  -- edge j joins x and y. For joining "which end of a line is written first carries no meaning", also of a directed edge (paper 02, [6])
   abbrev pub Joins : ℕ → ℕ → ℕ → Type 0
   Joins j x y = ((a j ≡ x) × (b j ≡ y)) ⊎ ((a j ≡ y) × (b j ≡ x))
 

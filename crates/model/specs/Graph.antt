@@ -36,7 +36,7 @@ edgeBefore s n v w (suc k) = cond (joins (endA s n k) (endB s n k) v w) k (edgeB
 abbrev pub edgeOf : List ℕ → ℕ → ℕ → ℕ
 edgeOf s v w = edgeBefore s (count s) v w (edges s)
 
--- the label of the edge that joins v and w
+-- the label of the edge that joins v and w; where none does, that of edge 0, and nobody asks
 unfoldable pub edgeLabel : List ℕ → ℕ → ℕ → ℕ
 edgeLabel s v w = edgeLabelAt s (count s) (edgeOf s v w)
 
@@ -44,7 +44,8 @@ edgeLabel s v w = edgeLabelAt s (count s) (edgeOf s v w)
 unfoldable pub directed : ℕ → Bool
 directed l = leb directedFrom l
 
--- where the edge that joins v and w is directed, v is upstream: "the first written end"
+-- of the directed edge that joins v and w, v is upstream: "the first written end". Of an undirected edge it is that end too, which then means nothing;
+-- where v and w are not joined, edge 0 is asked, as for a label
 unfoldable pub upstream : List ℕ → ℕ → ℕ → Bool
 upstream s v w = eqb (endA s (count s) (edgeOf s v w)) v
 

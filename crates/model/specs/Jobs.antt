@@ -1,5 +1,5 @@
 -- Jobs: the record, the items 14 to 17, and what start, advance and finish leave and answer, over any memory. Paper 01, "Jobs" and "Why a call is
--- turned down".
+-- turned down"; item 16 as paper 02, [2] and [3], have it.
 use mathlib.Core.Path.{_≡_}
 use mathlib.Core.Logic.{_≢_}
 use mathlib.Core.Bool.{Bool, true, false, not, _&&_, cond}

@@ -21,7 +21,7 @@ vertexLabelLimit = 32
 abbrev pub edgeLabelLimit : ℕ
 edgeLabelLimit = 8
 
--- edge labels from here on are directed: the paper's flow lines, line kinds 4 to 7. Paper 02, [6]
+-- an edge with this label or a greater one is directed: the paper's flow lines, line kinds 4 to 7, as a label is below edgeLabelLimit. Paper 02, [6]
 abbrev pub directedFrom : ℕ
 directedFrom = 4
 

@@ -1,4 +1,4 @@
--- Mappings, their weight, and the heaviest. Paper 01, "The mapping".
+-- Mappings, their weight, and the heaviest. Paper 01, "The mapping"; which pairs are forbidden also by paper 02, [3] and [6].
 use mathlib.Core.Path.{_≡_}
 use mathlib.Core.Logic.{_≢_}
 use mathlib.Core.Bool.{Bool, true, false, not, _&&_, _||_}
@@ -43,7 +43,7 @@ abbrev pub Connected : List ℕ → (ℕ → Type 0) → Type 0
 Connected s S = (x y : ℕ) → S x → S y → WalkIn s S x y
 
 -- "pairs some recorded devices, or none, with as many different found ones. Both sets are connected; two mapped devices are joined
--- exactly if their partners are; no device pair or line pair is forbidden."
+-- exactly if their partners are; no device pair or line pair is forbidden." (By the table, by serials or by directions: `Pairs`.)
 pub record IsMapping (table recorded found p : List ℕ) : Type 0 where
   pub long : length p ≡ count recorded
   pub inside : (u : ℕ) → Mapped recorded p u → partner p u < count found

@@ -1,4 +1,5 @@
--- The weights of a pair of vertices and of a pair of edges: the only way to a pair's weight. Paper 01, "The mapping"; paper 02, [3] and [6].
+-- The weights of a pair of vertices and of a pair of edges, which for directed edges hangs on how their ends are paired: the only way to a pair's weight.
+-- Paper 01, "The mapping"; paper 02, [3] and [6].
 use mathlib.Core.Bool.{Bool, _&&_, _||_, not, cond}
 use mathlib.Core.List.{List}
 use Prim.Native.Nat.{ℕ}
@@ -19,17 +20,18 @@ vertexPair table recorded found u v = cond (apart (serial recorded u) (serial fo
 
 -- of two directed edges, with u paired with v and u′ with v′: "upstream end to upstream end". Both ends are asked for, so that the answer is the same
 -- from either of them, also where nothing is joined
-unfoldable pub sameWay : List ℕ → List ℕ → ℕ → ℕ → ℕ → ℕ → Bool
-sameWay recorded found u u′ v v′ = (upstream recorded u u′ && upstream found v v′) || (upstream recorded u′ u && upstream found v′ v)
+unfoldable pub sameDirection : List ℕ → List ℕ → ℕ → ℕ → ℕ → ℕ → Bool
+sameDirection recorded found u u′ v v′ = (upstream recorded u u′ && upstream found v v′) || (upstream recorded u′ u && upstream found v′ v)
 
--- "A flow line pairs only with a flow line, upstream end to upstream end"; two edges without a direction agree too
+-- "A flow line pairs only with a flow line, upstream end to upstream end": their labels may differ. Two edges without a direction agree too
 unfoldable pub directionsAgree : List ℕ → List ℕ → ℕ → ℕ → ℕ → ℕ → Bool
 directionsAgree recorded found u u′ v v′ =
     cond (directed (edgeLabel recorded u u′))
-    (directed (edgeLabel found v v′) && sameWay recorded found u u′ v v′)
+    (directed (edgeLabel found v v′) && sameDirection recorded found u u′ v v′)
     (not (directed (edgeLabel found v v′)))
 
--- the recorded edge that joins u and u′ with the found edge that joins v and v′ (the paper's line pair), u paired with v and u′ with v′: forbidden where
--- their directions do not agree; any other weighs what the table says
+-- the recorded edge that joins u and u′ with the found edge that joins v and v′ (the paper's line pair), u paired with v and u′ with v′: where their
+-- directions do not agree "the pair is forbidden, whatever the table says", and so are two flow lines against each other; any other weighs what the table
+-- says. Only of joined vertices it means something: every use asks that first
 unfoldable pub edgePair : List ℕ → List ℕ → List ℕ → ℕ → ℕ → ℕ → ℕ → Weight
 edgePair table recorded found u u′ v v′ = cond (directionsAgree recorded found u u′ v v′) (edgeWeight table (edgeLabel recorded u u′) (edgeLabel found v v′)) none

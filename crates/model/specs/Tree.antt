@@ -1,5 +1,5 @@
 -- A tree's bytes: head, labels, serials, edges, and the items 3 to 7 and 25 (8 to 12 and 26 for the found tree). The paper's layout; its devices are
--- vertices, lines edges, kinds labels. Vertex records with a serial are those of paper 02, [3].
+-- vertices, lines edges, kinds labels. Vertex records with a serial are those of paper 02, [3]; by [6] the order of an edge's ends may mean something.
 use mathlib.Core.List.{List, [], _∷_}
 use Prim.Native.Nat.{ℕ, zero, suc, _+_, _*_, _-_}
 use mathlib.Core.Bool.{Bool, _&&_, _||_, cond, not}
@@ -38,7 +38,7 @@ edgeStart s n j = 3 + vertexSize s * n + 5 * j
 abbrev pub treeSize : List ℕ → ℕ → ℕ
 treeSize s n = (vertexSize s + 5) * n - 2
 
--- the label of vertex v, and its serial, 0 where the records have none; the two ends of edge j and its label
+-- the label of vertex v, and its serial, 0 where the records have none; the end of edge j that is written first, the other, and its label
 abbrev pub vertexLabel : List ℕ → ℕ → ℕ
 vertexLabel s v = byteAt s (vertexStart s v + 2)
 

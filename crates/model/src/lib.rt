@@ -19,7 +19,7 @@ impl Limits {
     pub const VERTEX_LABELS: u8 = 32;
 
     pub const EDGE_LABELS: u8 = 8;
-    // Edge labels from here on are directed (line kinds of flow lines).
+    // An edge with this label or a greater one is directed (line kinds of flow lines).
     pub const DIRECTED: u8 = 4;
 
     pub const VERTICES: u8 = 64;

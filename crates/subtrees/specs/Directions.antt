@@ -9,7 +9,7 @@ use borrow.Author.Tests.{lt-leb}
 use Rattle.model.specs.Graph.{edges, joined, edgeLabel, directed, upstream}
 use Rattle.model.specs.Limits.{directedFrom}
 use Rattle.model.specs.Mapping.{Mapped, partner, IsMapping}
-use Rattle.model.specs.Pairs.{sameWay, directionsAgree, edgePair}
+use Rattle.model.specs.Pairs.{sameDirection, directionsAgree, edgePair}
 use Rattle.model.specs.Table.{edgeLabels, edgeWeight}
 use Rattle.model.specs.Tree.{count}
 use Rattle.model.specs.Weights.{Weight, none}
@@ -33,7 +33,7 @@ module _ (table recorded found : List ℕ) (u u′ v v′ : ℕ) where
   unfolding edgePair directionsAgree
   mixed-forbidden d = go (directed (edgeLabel recorded u u′)) (directed (edgeLabel found v v′)) d
     where
-      go : (a b : Bool) → a ≢ b → cond (cond a (b && sameWay recorded found u u′ v v′) (not b)) tableSays none ≡ none
+      go : (a b : Bool) → a ≢ b → cond (cond a (b && sameDirection recorded found u u′ v v′) (not b)) tableSays none ≡ none
       go true true n = absurd (n refl)
       go true false n = refl
       go false true n = refl
@@ -54,8 +54,8 @@ module _ (table recorded found : List ℕ) (u u′ v v′ : ℕ) where
     unlike false true n = refl
     unlike false false n = absurd (n refl)
 
-    way : sameWay recorded found u u′ v v′ ≡ ((upstream recorded u u′ && upstream found v v′) || (not (upstream recorded u u′) && not (upstream found v v′)))
-    unfolding sameWay
+    way : sameDirection recorded found u u′ v v′ ≡ ((upstream recorded u u′ && upstream found v v′) || (not (upstream recorded u u′) && not (upstream found v v′)))
+    unfolding sameDirection
     way =
         let a = one-upstream recorded (accepted-sound A .0) u u′ (joined-says recorded (count recorded) u u′ (edges recorded) jr) in
         let b = one-upstream found (accepted-sound A .1) v v′ (joined-says found (count found) v v′ (edges found) jf) in

@@ -16,7 +16,7 @@ use Rattle.model.specs.Edges.{Joins, component}
 use Rattle.model.specs.Limits.{edgeLabelLimit, directedFrom, vertexLimit, degreeLimit, noVertex}
 use Rattle.model.specs.Tree.{count, endA, endB, edgeLabelAt, acyclic}
 use Rattle.model.specs.Graph.{edges, joins, neighbours, edgeBefore, edgeOf, edgeLabel, directed, upstream, inPlaces}
-use Rattle.model.specs.Pairs.{sameWay, directionsAgree, edgePair}
+use Rattle.model.specs.Pairs.{sameDirection, directionsAgree, edgePair}
 use Rattle.trees.specs.Accepted.{Passed, Sound, acyclic-fresh, edge-known}
 use Rattle.trees.specs.Neighbours.{Adjacent, edge-joins, edge-is, few-neighbours, mem-adjacent}
 
@@ -37,7 +37,7 @@ label-swap s v w = rw (edge-swap s (count s) v w (edges s))
 
 -- whatever the numbers, joined or not
 pub agree-swap : (r f : List ℕ) (u u′ v v′ : ℕ) → directionsAgree r f u u′ v v′ ≡ directionsAgree r f u′ u v′ v
-unfolding directionsAgree sameWay
+unfolding directionsAgree sameDirection
 agree-swap r f u u′ v v′ = rw (label-swap r u u′, label-swap f v v′, or-comm (upstream r u u′ && upstream f v v′) (upstream r u′ u && upstream f v′ v))
 
 pub pair-swap : (table r f : List ℕ) (u u′ v v′ : ℕ) → edgePair table r f u u′ v v′ ≡ edgePair table r f u′ u v′ v
@@ -138,7 +138,7 @@ module _ {s : List ℕ} {v w c : ℕ} (e : EdgeSeen s v w c) where
 
 -- the two numbers of a pair of edges tell whether their directions agree
 pub agree-seen : (r f : List ℕ) (u u′ v v′ i j : ℕ) → EdgeSeen r u u′ i → EdgeSeen f v v′ j → directionsAgree r f u u′ v v′ ≡ eqb (waySeen i) (waySeen j)
-unfolding directionsAgree sameWay
+unfolding directionsAgree sameDirection
 agree-seen r f u u′ v v′ i j a b = rw (a .other, b .other, way-seen a, way-seen b) (sym (ways-agree (directed (edgeLabel r u u′)) (directed (edgeLabel f v v′)) (upstream r u u′) (upstream f v v′)))
 
 -- its label is one of the table's
