@@ -2,7 +2,7 @@
 use crate::bytes::Bytes;
 use crate::certainty;
 use crate::graph::Graph;
-use crate::plant::{At, Fault, Place, Plant};
+use crate::plant::{At, Fault, Link, Place, Plant};
 use crate::text::Text;
 use crate::words::{is_digits, quote};
 use pensummer::{Refusal, FORBIDDEN, NONE};
@@ -109,15 +109,15 @@ impl<'a> Answer<'a> {
         self.plant.pair_weight(u, v)
     }
 
-    /// Of two mapped neighbours u and x of the recorded tree: the labels of their edge and of their partners' edge, if
-    /// there is one.
-    pub fn edge_pair(&self, u: usize, x: usize) -> Option<(usize, usize)> {
+    /// Of two mapped neighbours u and x of the recorded tree: their edge, seen from u, and their partners' edge, seen
+    /// from the partner of u, if there is one.
+    pub fn edge_pair(&self, u: usize, x: usize) -> Option<(Link, Link)> {
         let recorded = self.recorded.edge(u, x)?;
         Some((recorded, self.found.edge(self.partner[u]?, self.partner[x]?)?))
     }
 
-    pub fn edge_pair_weight(&self, (a, b): (usize, usize)) -> i32 {
-        self.plant.table.edge.rows[a][b]
+    pub fn edge_pair_weight(&self, (recorded, found): (Link, Link)) -> i32 {
+        self.plant.edge_pair_weight(recorded, found)
     }
 
     /// Whether the partners of a pair have different labels.
@@ -174,8 +174,9 @@ impl<'a> Answer<'a> {
                 match joined {
                     (None, None) => (),
                     (Some(a), Some(b)) if self.edge_pair_weight((a, b)) != FORBIDDEN => edges += 1,
-                    (Some(_), Some(_)) => {
-                        return lines.fault(u + 2, format!("the edge of recorded {x} and {u} is forbidden with that of their partners"));
+                    (Some(a), Some(b)) => {
+                        let edges = format!("the edge of recorded {x} and {u} is forbidden with that of their partners");
+                        return lines.fault(u + 2, edges + a.apart(b));
                     }
                     _ => {
                         let reason = format!("recorded {x} and {u} are joined and their partners are not, or the other way round");

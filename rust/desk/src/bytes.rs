@@ -1,5 +1,5 @@
 //! The bytes of a plant (docs/FORMAT.md), written from a plant and read into one.
-use crate::plant::{At, Edge, Fault, Place, Plant, Serial, Table, Tree, Vertex, Weights};
+use crate::plant::{At, Edge, Fault, Place, Plant, Serial, Table, Tree, Vertex, Weights, DIRECTED};
 use pensummer::{Inputs, EDGE_LABELS_MOST, VERTEX_LABELS_MOST, VERTICES_MOST};
 use std::rc::Rc;
 
@@ -273,9 +273,9 @@ impl<'a> Reader<'a> {
 
 /// An edge as the text form has it.
 pub fn edge_text(a: u8, b: u8, label: u8) -> String {
-    if label == 0 {
-        format!("{a}-{b}")
-    } else {
-        format!("{a}-{b}:{label}")
+    match label {
+        0 => format!("{a}-{b}"),
+        _ if DIRECTED.contains(&label.into()) => format!("{a}>{b}:{label}"),
+        _ => format!("{a}-{b}:{label}"),
     }
 }

@@ -1,5 +1,6 @@
 //! What a mapping says of each vertex, in words that a service engineer can act on: kept, changed, gone, new.
 use crate::answer::{Answer, Certainty};
+use crate::plant::Link;
 
 /// What became of a vertex.
 #[derive(Clone, Copy, Debug, PartialEq, Eq)]
@@ -31,8 +32,8 @@ pub struct Row {
     pub depth: usize,
     pub parent: Option<usize>,
     pub partner: Option<usize>,
-    /// The labels of the edge to the parent and of the partners' edge.
-    pub edge: Option<(usize, usize)>,
+    /// The edge to the parent and the partners' edge, seen from this vertex and its partner.
+    pub edge: Option<(Link, Link)>,
     pub state: State,
     /// Whether the partner is certain.
     pub certain: Certainty,

@@ -1,10 +1,10 @@
 //! An accepted tree by its neighbours: rooting, and the orders in which it is gone through.
-use crate::plant::Tree;
+use crate::plant::{Link, Tree};
 
-/// The neighbours of each vertex, ascending, each with the label of the edge to it.
+/// The neighbours of each vertex, ascending, each with the edge to it.
 #[derive(Clone, Debug, PartialEq, Eq)]
 pub struct Graph {
-    near: Vec<Vec<(usize, usize)>>,
+    near: Vec<Vec<(usize, Link)>>,
 }
 
 /// A tree hung up at a vertex.
@@ -21,11 +21,11 @@ impl Graph {
     pub fn of(tree: &Tree) -> Graph {
         let mut near = vec![Vec::new(); tree.size()];
         for edge in &tree.edges {
-            let [a, b] = edge.ends.map(usize::from);
-            near[a].push((b, edge.label.into()));
-            near[b].push((a, edge.label.into()));
+            let ([a, b], [of_a, of_b]) = (edge.ends.map(usize::from), edge.links());
+            near[a].push((b, of_a));
+            near[b].push((a, of_b));
         }
-        near.iter_mut().for_each(|row| row.sort_unstable());
+        near.iter_mut().for_each(|row| row.sort_unstable_by_key(|&(to, _)| to));
         Graph { near }
     }
 
@@ -35,12 +35,17 @@ impl Graph {
 
     /// The neighbours of a vertex, ascending.
     pub fn neighbours(&self, vertex: usize) -> impl Iterator<Item = usize> + '_ {
-        self.near[vertex].iter().map(|&(to, _)| to)
+        self.links(vertex).map(|(to, _)| to)
     }
 
-    /// The label of the edge between two vertices; none if they are not joined.
-    pub fn edge(&self, a: usize, b: usize) -> Option<usize> {
-        self.near[a].iter().find(|&&(to, _)| to == b).map(|&(_, label)| label)
+    /// The same with the edges to them, seen from the vertex.
+    pub fn links(&self, vertex: usize) -> impl Iterator<Item = (usize, Link)> + '_ {
+        self.near[vertex].iter().copied()
+    }
+
+    /// The edge between two vertices, seen from the first; none if they are not joined.
+    pub fn edge(&self, a: usize, b: usize) -> Option<Link> {
+        self.links(a).find(|&(to, _)| to == b).map(|(_, link)| link)
     }
 
     pub fn rooted(&self, root: usize) -> Rooted {

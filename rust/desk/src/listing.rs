@@ -71,13 +71,16 @@ fn cells(answer: &Answer, row: &Row) -> [String; 8] {
     }
 }
 
-/// The label of the edge to the parent; of a changed edge both labels.
+/// The label of the edge to the parent, of a directed edge after its ends; of a changed edge both labels.
 fn edge_cell(answer: &Answer, row: &Row, parent: usize) -> String {
     let labels = &answer.plant.table.edge;
-    let own = label(labels, answer.recorded.edge(row.vertex, parent).unwrap_or_default());
+    let own = answer.recorded.edge(row.vertex, parent).map_or(String::new(), |link| {
+        let ends = link.direction.ends(row.vertex, parent).map_or(String::new(), |[a, b]| format!("{a}>{b}: "));
+        ends + &label(labels, link.label)
+    });
     let unsure = unsure(row.edge_certain);
     match row.edge {
-        Some((was, is)) if was != is => format!("{own} -> {} !{unsure}", label(labels, is)),
+        Some((was, is)) if was != is => format!("{own} -> {} !{unsure}", label(labels, is.label)),
         _ => own + unsure,
     }
 }
@@ -100,9 +103,9 @@ fn without_partner(answer: &Answer) -> String {
     for v in new_vertices(answer) {
         text += &format!("{}{}  label {}", found.called(v), unsure(answer.found_certain[v]), label(&table.vertex, found.label(v)));
         text += &found.serial_after(", ", v);
-        for (at, w) in answer.found.neighbours(v).enumerate() {
-            let edge = label(&table.edge, answer.found.edge(v, w).unwrap_or_default());
-            text += &format!(", {}{} (edge label {edge})", if at == 0 { "joined to " } else { "" }, found.called(w));
+        for (at, (w, link)) in answer.found.links(v).enumerate() {
+            let (to, edge) = (found.called(w) + link.direction.word(), label(&table.edge, link.label));
+            text += &format!(", {}{to} (edge label {edge})", if at == 0 { "joined to " } else { "" });
         }
         text.push('\n');
     }
@@ -117,6 +120,7 @@ fn legend(answer: &Answer, rows: &[Row]) -> String {
     let unsure = !rows.iter().map(Row::is_certain).chain(new).all(|certain| certain);
     let elsewhere = answer.pairs().any(|(u, _)| name_elsewhere(answer, u).is_some());
     let marks = [
+        (answer.plant.recorded.is_directed(), "> a directed edge: the end before this mark is upstream\n"),
         (changed, "! the label is another one now\n"),
         (unsure, "? not certain: another heaviest mapping says otherwise, or it is not known; `pensummer match` says which\n"),
         (elsewhere, "* the recorded name stands at another found vertex\n"),

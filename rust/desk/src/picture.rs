@@ -5,12 +5,13 @@
 //! beside it stand its name, its label, and its serial if that is known. Partners have the same row and colour and are
 //! joined by a line across, dashed if their labels differ; a vertex without a partner is grey and hollow. Branches of
 //! the found tree stand as those of the recorded tree, so that lines across do not cross. Edges have their label if
-//! there are several; where neighbours and their partners are joined by edges of two labels, both edges are marked.
-//! What is not certain has a `?`.
+//! there are several; where neighbours and their partners are joined by edges of two labels, both edges are marked. A
+//! directed edge has a head that points downstream. What is not certain has a `?`.
 //!
 //! The picture is to be read on a page of paper too: large plants are drawn closer, paths straight, and branches
 //! without any partner folded.
 mod draw;
+mod heads;
 mod layout;
 mod order;
 mod sheet;

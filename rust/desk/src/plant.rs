@@ -1,8 +1,9 @@
 //! A plant as people give it: a weight table and two trees, with names for people and with the place in the input where
 //! each part stands.
 use crate::words::shown;
-use pensummer::FORBIDDEN;
+use pensummer::{EDGE_LABELS_MOST, FORBIDDEN};
 use std::fmt;
+use std::ops::Range;
 use std::rc::Rc;
 
 /// Where something stands in an input.
@@ -81,14 +82,77 @@ pub struct Vertex {
     pub place: Place,
 }
 
+/// The labels of directed edges. Smaller ones are of undirected edges, larger ones of none.
+pub const DIRECTED: Range<usize> = 4..EDGE_LABELS_MOST;
+
 #[derive(Clone, Debug, PartialEq, Eq)]
 pub struct Edge {
-    /// The two vertices, as written; of a refused plant they may be any.
+    /// The two vertices, as written: of a directed edge the first is upstream. Of a refused plant they may be any.
     pub ends: [u8; 2],
     pub label: u8,
     /// The edge as written.
     pub text: String,
     pub place: Place,
+}
+
+impl Edge {
+    /// The edge seen from each of its ends.
+    pub fn links(&self) -> [Link; 2] {
+        let label = self.label.into();
+        let directions = match DIRECTED.contains(&label) {
+            true => [Direction::Down, Direction::Up],
+            false => [Direction::Undirected; 2],
+        };
+        directions.map(|direction| Link { label, direction })
+    }
+}
+
+/// An edge seen from one of its ends.
+#[derive(Clone, Copy, Debug, PartialEq, Eq)]
+pub struct Link {
+    pub label: usize,
+    pub direction: Direction,
+}
+
+impl Link {
+    /// For people, behind the words that a pair of edges is forbidden: how their directions differ, if they do.
+    pub fn apart(self, partner: Link) -> &'static str {
+        match [self.direction, partner.direction] {
+            [a, b] if a == b => "",
+            [Direction::Undirected, _] | [_, Direction::Undirected] => ": one has a direction and the other has not",
+            _ => ": they run opposite ways",
+        }
+    }
+}
+
+/// Where an edge leads from the end that it is seen from.
+#[derive(Clone, Copy, Debug, PartialEq, Eq)]
+pub enum Direction {
+    Undirected,
+    /// Downstream: this end is upstream.
+    Down,
+    /// Upstream: this end is downstream.
+    Up,
+}
+
+impl Direction {
+    /// For people, behind the name of the vertex that the edge leads to.
+    pub fn word(self) -> &'static str {
+        match self {
+            Direction::Undirected => "",
+            Direction::Down => " downstream",
+            Direction::Up => " upstream",
+        }
+    }
+
+    /// The ends of an edge that leads from here to there, the upstream one first; none of an undirected one.
+    pub fn ends(self, here: usize, there: usize) -> Option<[usize; 2]> {
+        match self {
+            Direction::Undirected => None,
+            Direction::Down => Some([here, there]),
+            Direction::Up => Some([there, here]),
+        }
+    }
 }
 
 /// The serial of a vertex; 0 is unknown.
@@ -116,6 +180,11 @@ impl Tree {
 
     pub fn label(&self, vertex: usize) -> usize {
         self.vertices[vertex].label.into()
+    }
+
+    /// Whether an edge has a direction.
+    pub fn is_directed(&self) -> bool {
+        self.edges.iter().any(|edge| DIRECTED.contains(&edge.label.into()))
     }
 
     /// The serial of a vertex, if it is known.
@@ -160,5 +229,15 @@ impl Plant {
     pub fn serials_apart(&self, u: usize, v: usize) -> Option<[u32; 2]> {
         let serials = [self.recorded.serial(u)?, self.found.serial(v)?];
         Some(serials).filter(|[a, b]| a != b)
+    }
+
+    /// What a recorded edge with a found one weighs, `pensummer::FORBIDDEN` if the pair is forbidden: the only way to an
+    /// edge pair's weight. The ends that they are seen from are partners. Where the directions differ the pair is
+    /// forbidden, whatever the table says.
+    pub fn edge_pair_weight(&self, recorded: Link, found: Link) -> i32 {
+        match recorded.direction == found.direction {
+            true => self.table.edge.rows[recorded.label][found.label],
+            false => FORBIDDEN,
+        }
     }
 }

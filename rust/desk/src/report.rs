@@ -75,10 +75,12 @@ fn recorded(answer: &Answer, rows: &[Row]) -> Json {
 fn recorded_vertex(answer: &Answer, row: &Row) -> Json {
     let weight = row.partner.map(|v| answer.pair_weight(row.vertex, v));
     let edge = row.edge.and_then(|(was, is)| {
+        let ends = was.direction.ends(row.vertex, row.parent?);
         Some(Json::Object(vec![
             ("to", row.parent?.into()),
-            ("label", was.into()),
-            ("partner_label", is.into()),
+            ("label", was.label.into()),
+            ("partner_label", is.label.into()),
+            ("upstream", ends.map(|[upstream, _]| upstream).into()),
             ("weight", answer.edge_pair_weight((was, is)).into()),
             ("certain", edge_certain(row)),
         ]))

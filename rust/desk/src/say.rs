@@ -1,7 +1,7 @@
 //! A mapping in words, a line for each vertex: what is kept, changed, gone and new, and what is not certain.
 use crate::answer::{Answer, Certainty};
 use crate::changes::{counts, name_elsewhere, new_vertices, rows, Counts, Row, State};
-use crate::plant::{Tree, Weights};
+use crate::plant::{Link, Tree, Weights};
 
 /// A vertex for people: number, name of its own if it has one, label, and serial if that is known.
 pub fn vertex(tree: &Tree, labels: &Weights, u: usize) -> String {
@@ -70,8 +70,9 @@ fn changes(answer: &Answer, row: &Row, v: usize) -> String {
     }
     match (row.parent, row.edge) {
         (Some(parent), Some((was, is))) if was != is => {
-            let to = answer.plant.recorded.called(parent);
-            text += &format!("; its edge to {to} was {} and is {}", called(&table.edge, was, is), called(&table.edge, is, was));
+            let to = answer.plant.recorded.called(parent) + was.direction.word();
+            let [was, is] = [(was, is), (is, was)].map(|(one, other)| called(&table.edge, one.label, other.label));
+            text += &format!("; its edge to {to} was {was} and is {is}");
         }
         _ => (),
     }
@@ -89,11 +90,11 @@ fn called(labels: &Weights, label: usize, other: usize) -> String {
 }
 
 fn found_line(answer: &Answer, v: usize) -> String {
-    let edge = |w: usize| {
-        let label = answer.found.edge(v, w).unwrap_or_default();
-        format!("{} by {}", vertex(&answer.plant.found, &answer.plant.table.vertex, w), answer.plant.table.edge.called(label))
+    let table = &answer.plant.table;
+    let edge = |(w, link): (usize, Link)| {
+        format!("{}{} by {}", vertex(&answer.plant.found, &table.vertex, w), link.direction.word(), table.edge.called(link.label))
     };
-    let joined: Vec<String> = answer.found.neighbours(v).map(edge).collect();
+    let joined: Vec<String> = answer.found.links(v).map(edge).collect();
     let mut line = found(answer, v);
     if !joined.is_empty() {
         line += &format!(", joined to {}", joined.join(", "));

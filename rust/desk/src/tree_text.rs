@@ -1,5 +1,5 @@
 //! Reading a tree's part of a plant's text: vertices with labels and perhaps names and serials, and edges.
-use crate::plant::{Edge, Fault, Place, Table, Tree, Vertex};
+use crate::plant::{Edge, Fault, Place, Table, Tree, Vertex, DIRECTED};
 use crate::serial_text::SerialsText;
 use crate::table_text::label_of;
 use crate::words::{closed_up, is_bare, is_digits, outside_quotes, quote, Line, Part, Word};
@@ -89,22 +89,25 @@ impl TreeText {
         at.map(|at| at as u8)
     }
 
-    /// `END-END` or `END-END:LABEL`.
+    /// `END-END`, `END-END:LABEL` or `END>END:LABEL`.
     fn read_edge(&mut self, line: &Line, word: Word, table: &Table) -> Result<(), Fault> {
-        let shape = || line.fault(word.column, format!("an edge is two vertices and a label, as 0-1 or 0-1:2, not {}", quote(word.text)));
         let (ends, label) = match outside_quotes(word.text, ':') {
             Some(at) => (&word.text[..at], Some(&word.text[at + 1..])),
             None => (word.text, None),
         };
-        let mut parts = line.parts(Word { text: ends, column: word.column }, &['-'])?;
+        let mut parts = line.parts(Word { text: ends, column: word.column }, &['-', '>'])?;
         if parts.len() != 2 {
-            return shape();
+            let reason = format!("an edge is two vertices and a label, as 0-1, 0-1:2 or 0>1:4, not {}", quote(word.text));
+            return line.fault(word.column, reason);
         }
         let mut label_number = 0;
         if let Some(text) = label {
             let column = word.column + ends.chars().count() + 1;
             let part = line.parts(Word { text, column }, &[])?.remove(0).0;
             label_number = label_of(&part, &line.place(column), "edge", &table.edge.names)?;
+        }
+        if let Some(reason) = wrong_sign(parts[0].1, label_number) {
+            return line.fault(parts[1].0.column - 1, reason);
         }
         let end = |(part, _): (Part, Option<char>)| (line.place(part.column), part);
         let ((second_at, second), (first_at, first)) = (end(parts.remove(1)), end(parts.remove(0)));
@@ -144,5 +147,21 @@ impl TreeText {
                 fault(format!("no vertex of this tree is named {}{hint}", quote(&part.text)))
             }
         }
+    }
+}
+
+/// What is wrong with the sign between the ends of an edge with this label. A label that is none of edges has either.
+fn wrong_sign(sign: Option<char>, label: u8) -> Option<String> {
+    let (first, label) = (DIRECTED.start, usize::from(label));
+    match sign {
+        Some('-') if DIRECTED.contains(&label) => {
+            let last = DIRECTED.end - 1;
+            Some(format!("label {label}, as all from {first} to {last}, has a direction: write `>` here, and the upstream end before it"))
+        }
+        Some('>') if label < first => {
+            let last = first - 1;
+            Some(format!("label {label}, as all from 0 to {last}, has no direction: write `-` here, or a label that has one"))
+        }
+        _ => None,
     }
 }

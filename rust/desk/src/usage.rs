@@ -35,8 +35,9 @@ pub const COMMANDS: [Command; 9] = [
         about: "the same as a table: the recorded tree, partners and weights",
         help: "The recorded tree from vertex 0 down, children indented below their parent:\n\
                number and name, label, label of the edge to the parent, partner, its label,\n\
-               and what the pair and the edge weigh; serials where one is known. `!` marks\n\
-               what changed, `?` what is not certain.",
+               and what the pair and the edge weigh; serials where one is known. A directed\n\
+               edge has its ends before its label, the upstream one first. `!` marks what\n\
+               changed, `?` what is not certain.",
     },
     Command {
         name: "picture",

@@ -204,10 +204,10 @@ impl Cursor<'_> {
 
 /// No word of a tree begins or ends with what joins its parts: there was a blank beside it.
 pub fn closed_up(line: &Line, words: &[Word]) -> Result<(), Fault> {
-    const JOINS: [char; 3] = ['-', '=', ':'];
+    const JOINS: [char; 4] = ['-', '>', '=', ':'];
     match words.iter().find(|word| word.text.starts_with(JOINS) || word.text.ends_with(JOINS)) {
         Some(word) => {
-            line.fault(word.column, format!("something is missing at {}; no blanks stand around `-`, `=` and `:`", quote(word.text)))
+            line.fault(word.column, format!("something is missing at {}; no blanks stand around `-`, `>`, `=` and `:`", quote(word.text)))
         }
         None => Ok(()),
     }

@@ -5,19 +5,12 @@ mod support;
 use support::json::Value;
 use support::plants::{big, examples, of_repository, tree, LOOP, NINE, THREE, THREE_PLAIN};
 use support::report::{certain, report};
-use support::{said, Folder, Ran};
+use support::{out, said, Folder, Ran};
 
 /// Runs a command on a plant in the file `p`.
 fn of(plant: &str, arguments: &[&str]) -> Ran {
     let folder = Folder::with(&[("p", plant)]);
     folder.run(&[arguments, &["p"]].concat())
-}
-
-/// What a command prints that ends well.
-fn out(plant: &str, arguments: &[&str]) -> String {
-    let (out, err, status) = of(plant, arguments);
-    assert_eq!((err.as_str(), status), ("", 0), "{arguments:?}");
-    out
 }
 
 fn pool() -> String {
@@ -648,7 +641,7 @@ fn json_of_small_plant_3_whole() {
              \"partner\":{partner},\"certain\":true,\"otherwise\":null,\"weight\":{weight},\"edge\":{edge},\"same_name\":null}}"
         )
     };
-    let edge = "{\"to\":0,\"label\":0,\"partner_label\":0,\"weight\":1,\"certain\":true}";
+    let edge = "{\"to\":0,\"label\":0,\"partner_label\":0,\"upstream\":null,\"weight\":1,\"certain\":true}";
     let recorded = [vertex(0, 0, 1, 5, "null"), vertex(1, 1, 0, 3, edge)].join(",");
     let found = [vertex(0, 1, 1, 3, "null"), vertex(1, 0, 0, 5, "null")].join(",");
     let expected = format!(

@@ -8,16 +8,18 @@ mod plants;
 use damage::{put, Whole, DAMAGES};
 use desk::certificate::{broken, read, show, Broken, Certificate, Record};
 use desk::plant::Plant;
-use plants::{named_plant, path, random_plant, small_plant_1, small_plant_8, table_p, tree, with_serials, Bytes, Random, X};
+use plants::{named_plant, path, random_plant, small_plant_1, small_plant_8, table_p, tree, weights, with_serials, Bytes, Random, X};
 
 /// The items of the rules, and words that only the reason of that rule has; the first that fits is meant.
-const RULES: [(u32, &str); 18] = [
+const RULES: [(u32, &str); 20] = [
     (20, "where the mark"),
     (20, "the certificate says that the recorded tree"),
     (20, "the certificate says that the found tree"),
     (20, "bytes; that of these two trees has"),
     (21, "a partner is a found vertex"),
     (21, "have the same partner"),
+    (21, "is forbidden: they run opposite ways"),
+    (21, "is forbidden: one has a direction and the other has not"),
     (21, "the pair of their edges"),
     (21, "; the pair of "),
     (21, "; their serials, "),
@@ -339,6 +341,55 @@ fn serials() {
     let shown = show(&plant, &certificate);
     assert!(shown.contains("\n2 filter  filtering, serial 8  "), "{shown}");
     assert!(shown.lines().any(|line| line.contains(" 1 heater    1 heater 2  1  forbidden  forbidden  ")), "{shown}");
+}
+
+/// The same names, with pump and filter upstream of the heater in both trees; the table forbids no pair of edges.
+fn directed_plant() -> Plant {
+    let mut plant = named_plant();
+    plant.table.edge = weights(&[&[1; 6][..]; 6], &["pipe", "cable", "rod", "rope", "supply", "return"]);
+    plant.recorded = tree(&[0, 1, 2], &[(0, 1, 4), (2, 1, 4)], &["pump", "heater", "filter"]);
+    plant.found = tree(&[0, 1, 2, 1], &[(0, 1, 4), (2, 1, 5), (2, 3, 1)], &["pump 2", "heater 2", "filter 2"]);
+    plant
+}
+
+/// Edges that run opposite ways, and one with a direction and one without, are forbidden pairs in the mapping and in the
+/// records, whatever the table says; two that run the same way weigh what it says.
+#[test]
+fn directions() {
+    let plant = directed_plant();
+    let (bytes, certificate) = written(&plant, &Bytes::of(&plant));
+    assert_eq!((certificate.weight, &certificate.partners[..]), (5 + 4 + 3 + 1 + 1, &[0, 1, 2][..]));
+    let mapping = |plant: &Plant, partners: [u8; 3], offset: usize, reason: &str| {
+        let bytes = (0..3).fold(bytes.clone(), |bytes, u| with(&bytes, 10 + 3 * u, &partners[u..u + 1]));
+        refused(plant, &bytes, 21, offset, reason);
+    };
+    let partners = "recorded 1 heater and recorded 2 filter have the partners found 2 filter 2 and found";
+    let opposite = "1 heater 2; the pair of their edges, supply and return, is forbidden: they run opposite ways";
+    mapping(&plant, [255, 2, 1], 16, &format!("{partners} {opposite}"));
+    let neither = "3; the pair of their edges, supply and cable, is forbidden: one has a direction and the other has not";
+    mapping(&plant, [255, 2, 3], 16, &format!("{partners} {neither}"));
+    // a recorded edge turned round, and one without a direction
+    let mut turned = plant.clone();
+    turned.recorded.edges[0].ends = [1, 0];
+    let both = "recorded 0 pump and recorded 1 heater have the partners found 0 pump 2 and found 1 heater 2; the pair of their edges,";
+    mapping(&turned, [0, 1, 2], 13, &format!("{both} supply and supply, is forbidden: they run opposite ways"));
+    turned.recorded.edges[0].label = 3;
+    mapping(&turned, [0, 1, 2], 13, &format!("{both} rope and supply, is forbidden: one has a direction and the other has not"));
+}
+
+/// A child pair of edges that run opposite ways needs no cover; turned round it does.
+#[test]
+fn cover_of_directions() {
+    let mut plant = directed_plant();
+    plant.found.edges[0].ends = [1, 0];
+    let (bytes, certificate) = written(&plant, &Bytes::of(&plant));
+    let alone = record(&certificate, [1, 1, 2]);
+    assert_eq!((alone.value, alone.children[0].value, alone.neighbours[0].value), (4, 0, 0));
+    let reason = "the record of recorded 1 heater with found 1 heater 2, without found 2 filter 2, has the duals 0 for recorded child \
+                  2 filter and 0 for found neighbour 0 pump 2, together 0; their edge pair weighs 1 and the value of recorded 2 filter \
+                  with found 0 pump 2, without found 1 heater 2, is 1, together 2";
+    // as the certificate's mapping has no pump, it is one of the plant with the edge turned back, too
+    refused(&directed_plant(), &bytes, 23, alone.offset + 6, reason);
 }
 
 /// A child pair whose duals do not cover its weight, in a sum that is right; the left-out pairs beside it need no

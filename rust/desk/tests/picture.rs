@@ -64,12 +64,14 @@ fn answer(plant: &Plant, partner: Vec<Option<usize>>) -> Answer<'_> {
 
 const DEVICES: [&str; 6] = ["circulation pump", "filter", "heater", "chlorine pump", "acid pump", "probe"];
 
-/// A tree as a plant's text has it: labels, and edges like `0-1` or `0-1:2`.
+const EDGES: [&str; 8] = ["pipe", "signal line", "power cable", "hose", "suction pipe", "pressure pipe", "return pipe", "dosing hose"];
+
+/// A tree as a plant's text has it: labels, and edges like `0-1`, `0-1:2` or `0>1:4`.
 fn shape(labels: &str, edges: &str) -> Shape {
     let number = |s: &str| s.parse::<u8>().expect("a number");
     let edge = |s: &str| {
         let (ends, label) = s.split_once(':').unwrap_or((s, "0"));
-        let (a, b) = ends.split_once('-').expect("an edge");
+        let (a, b) = ends.split_once(['-', '>']).expect("an edge");
         (number(a), number(b), number(label))
     };
     Shape { labels: labels.split(' ').map(number).collect(), edges: edges.split(' ').map(edge).collect(), ..Shape::default() }
@@ -166,10 +168,16 @@ fn renumbered(shape: &Shape, to: &[usize]) -> Shape {
     other
 }
 
-/// Random labels, of vertices and of edges.
+/// Random labels of vertices and of edges, which run either way.
 fn labels(shape: &mut Shape, vertex: usize, edge: usize, random: &mut Random) {
     shape.labels.iter_mut().for_each(|label| *label = random.below(vertex) as u8);
-    shape.edges.iter_mut().for_each(|e| e.2 = random.below(edge) as u8);
+    shape.edges.iter_mut().for_each(|e| *e = any_way(*e, edge, random));
+}
+
+/// The edge with its ends in any order, and a random label.
+fn any_way((a, b, _): (u8, u8, u8), labels: usize, random: &mut Random) -> (u8, u8, u8) {
+    let (first, second) = if random.below(2) == 0 { (a, b) } else { (b, a) };
+    (first, second, random.below(labels) as u8)
 }
 
 /// A connected part of the tree: so many vertices from a random one on.
@@ -187,6 +195,21 @@ fn part(shape: &Shape, n: usize, random: &mut Random) -> Vec<usize> {
     chosen
 }
 
+/// Another edge label, of a directed edge that of a directed one.
+fn another(label: u8) -> u8 {
+    if label < 4 {
+        1 - label.min(1)
+    } else {
+        4 + (label + 1) % 4
+    }
+}
+
+/// Random labels for the edges of vertices without a partner.
+fn free_edges(found: &mut Shape, partner: &[Option<usize>], edge: usize, random: &mut Random) {
+    let mapped = |v: u8| partner.contains(&Some(v.into()));
+    found.edges.iter_mut().filter(|e| !mapped(e.0) || !mapped(e.1)).for_each(|e| *e = any_way(*e, edge, random));
+}
+
 /// A found tree with a copy of a part of the recorded tree, and the partners; labels stay the same but for `odds` in a
 /// hundred.
 fn found_with(
@@ -199,7 +222,7 @@ fn found_with(
 ) -> (Shape, Vec<Option<usize>>) {
     let at = |u: u8| chosen.iter().position(|&c| c == usize::from(u)).map(|at| at as u8);
     let mut edges: Vec<(u8, u8, u8)> = recorded.edges.iter().filter_map(|&(a, b, l)| Some((at(a)?, at(b)?, l))).collect();
-    edges.iter_mut().for_each(|e| e.2 = if random.below(100) < odds { 1 - e.2.min(1) } else { e.2 });
+    edges.iter_mut().for_each(|e| e.2 = if random.below(100) < odds { another(e.2) } else { e.2 });
     let mut kept = Shape { labels: chosen.iter().map(|&u| recorded.labels[u]).collect(), edges, ..Shape::default() };
     kept.labels.iter_mut().for_each(|l| *l = if random.below(100) < odds { 0 } else { *l });
     if kept.labels.is_empty() {
@@ -376,23 +399,51 @@ fn text_area(text: &Element) -> Area {
     Area { x: [x, x + width], y: [y - 0.72 * font, y + if digits { 0.0 } else { 0.21 * font }] }
 }
 
-/// The straight pieces of a path `M x y V y [Q x y x y H x]`, as wide as it is drawn.
+/// The straight pieces of a path of `M x y`, `V y`, `H x` and `Q x y x y`, as wide as it is drawn; a curve belongs to
+/// what follows.
 fn path_areas(path: &Element) -> Vec<Area> {
-    let d = path.get("d").replace(|c: char| c.is_ascii_alphabetic(), " ");
-    let n: Vec<f64> = d.split_whitespace().map(|n| n.parse().expect("a number")).collect();
+    let (mut areas, mut at) = (Vec::new(), [0.0, 0.0]);
     let half = path.number("stroke-width") / 2.0;
-    let area = |a: f64, b: f64, y: f64, z: f64, wide: f64, high: f64| Area {
-        x: [a.min(b) - wide, a.max(b) + wide],
-        y: [y.min(z) - high, y.max(z) + high],
-    };
-    let mut areas = vec![area(n[0], n[0], n[1], n[2], half, 0.0)];
-    if n.len() > 3 {
-        areas.push(area(n[0], n[7], n[4], n[4], 0.0, half));
+    let d = path.get("d").replace(['M', 'V', 'H', 'Q'], ";").replacen(';', "", 1);
+    let ways = path.get("d").chars().filter(char::is_ascii_alphabetic);
+    for (way, numbers) in ways.zip(d.split(';')) {
+        let n: Vec<f64> = numbers.split_whitespace().map(|n| n.parse().expect("a number")).collect();
+        let to = match way {
+            'V' => [at[0], n[0]],
+            'H' => [n[0], at[1]],
+            'Q' => [at[0], n[3]],
+            _ => [n[0], n[1]],
+        };
+        let off = |axis: usize| if at[axis] == to[axis] { half } else { 0.0 };
+        let span = |axis: usize| [at[axis].min(to[axis]) - off(axis), at[axis].max(to[axis]) + off(axis)];
+        if way == 'V' || way == 'H' {
+            areas.push(Area { x: span(0), y: span(1) });
+        }
+        at = to;
     }
     areas
 }
 
-/// No text meets a line, a circle or another text, or runs out of the picture; no line meets a circle.
+/// The corners of an arrow head: its point, and the two of its base.
+fn corners(head: &Element) -> [[f64; 2]; 3] {
+    let corner = |text: &str| {
+        let (x, y) = text.split_once(',').expect("a corner");
+        [x, y].map(|n| n.parse::<f64>().expect("a number"))
+    };
+    let all: Vec<[f64; 2]> = head.get("points").split(' ').map(corner).collect();
+    all.try_into().expect("three corners")
+}
+
+fn head_area(head: &Element) -> Area {
+    let span = |axis: usize| {
+        let all = corners(head).map(|corner| corner[axis]);
+        [all.into_iter().fold(f64::MAX, f64::min), all.into_iter().fold(f64::MIN, f64::max)]
+    };
+    Area { x: span(0), y: span(1) }
+}
+
+/// No text meets a line, a head, a circle or another text, or runs out of the picture; no line and no head meets a
+/// circle, no head a line or another head.
 fn nothing_overlaps(seen: &Seen) {
     let texts: Vec<(&Element, Area)> = seen.all("text").into_iter().map(|text| (text, text_area(text))).collect();
     let pairs =
@@ -410,6 +461,14 @@ fn nothing_overlaps(seen: &Seen) {
     assert!(!lines[..pairs].iter().any(|pair| lines[pairs..].iter().any(|line| line.meets(pair))), "a line across meets another");
     for circle in &seen.circles {
         assert!(!lines.iter().any(|line| line.distance(circle.x, circle.y) < circle.r - 0.4), "a line meets {circle:?}");
+    }
+    let heads: Vec<Area> = seen.all("polygon").into_iter().map(head_area).collect();
+    for (i, head) in heads.iter().enumerate() {
+        assert!(!texts.iter().any(|(_, text)| text.meets(head)), "a text meets the head {head:?}");
+        // its own line ends before it and goes on behind it
+        assert!(!lines.iter().chain(&heads[..i]).any(|other| other.meets(head)), "a line or a head meets the head {head:?}");
+        // its point leaves the circle free too
+        assert!(!seen.circles.iter().any(|c| head.distance(c.x, c.y) < c.r + 0.4), "a circle meets the head {head:?}");
     }
 }
 
@@ -446,7 +505,7 @@ fn marks_changes(seen: &Seen, answer: &Answer) {
     let joined = |e: &&Edge| Some((answer.partner[e.ends[0] as usize]?, answer.partner[e.ends[1] as usize]?));
     let changed = answer.plant.recorded.edges.iter().filter(|e| {
         let other = joined(e).and_then(|(a, b)| answer.found.edge(a, b));
-        matches!(other, Some(label) if label != usize::from(e.label))
+        matches!(other, Some(link) if link.label != usize::from(e.label))
     });
     let count = changed.count();
     // recorded edges stand before the first circle
@@ -460,10 +519,64 @@ fn marks_changes(seen: &Seen, answer: &Answer) {
     assert_eq!(seen.legend().contains("thick and dashed"), count > 0);
 }
 
+/// Whether a vertex is the child of the other one of its edge: further in, or straight below.
+fn is_child(u: &Circle, other: &Circle) -> bool {
+    let inward = [u.x - other.x, other.x - u.x][u.side];
+    inward > 0.05 || inward > -0.05 && u.y > other.y
+}
+
+/// The vertex to whose line a head belongs: the one in its row, or else the next one below it.
+fn child_of<'a>(seen: &'a Seen, side: usize, head: &Element) -> &'a Circle {
+    let [tip, a, b] = corners(head);
+    let level = a[0] == b[0];
+    let of = |c: &&Circle| c.side == side && if level { c.y == tip[1] } else { c.x == tip[0] && c.y > tip[1] };
+    seen.circles.iter().filter(of).min_by(|a, b| a.y.total_cmp(&b.y)).unwrap_or_else(|| panic!("no vertex has {head:?}"))
+}
+
+/// The heads by the side and the child of their edge, none of which has two.
+fn heads(seen: &Seen) -> BTreeMap<(usize, usize), &Element> {
+    // what is recorded stands before the first circle
+    let first = seen.elements.iter().position(|e| e.tag == "circle");
+    let mut heads = BTreeMap::new();
+    for (i, head) in seen.elements.iter().enumerate().filter(|(_, e)| e.tag == "polygon") {
+        let side = usize::from(Some(i) > first);
+        assert!(heads.insert((side, child_of(seen, side, head).vertex), head).is_none(), "a second head: {head:?}");
+    }
+    heads
+}
+
+/// A head of the edge from `up` to `down` points to its downstream end, in the colour of its line.
+fn points_to(head: &Element, up: &Circle, down: &Circle) {
+    let [tip, a, b] = corners(head);
+    let child = if is_child(up, down) { up } else { down };
+    let far = |x: f64, y: f64| (x - child.x).hypot(y - child.y);
+    let base = far((a[0] + b[0]) / 2.0, (a[1] + b[1]) / 2.0);
+    assert_eq!(far(tip[0], tip[1]) < base, child.vertex == down.vertex, "{up:?} {down:?} {head:?}");
+    let mapped = up.fill != "#fff" && down.fill != "#fff";
+    assert_eq!(head.get("fill"), if mapped { "#222" } else { "#9a9a9a" }, "{up:?} {down:?}");
+}
+
+/// Each directed edge that is shown has a head, and no other edge has one.
+fn points_downstream(seen: &Seen, answer: &Answer) {
+    let mut heads = heads(seen);
+    let trees = [&answer.plant.recorded, &answer.plant.found];
+    let edges = || trees.into_iter().enumerate().flat_map(|(side, tree)| tree.edges.iter().map(move |edge| (side, edge)));
+    for (side, edge) in edges().filter(|(_, edge)| edge.label > 3) {
+        let shown = edge.ends.map(|u| seen.circles.iter().find(|c| c.side == side && c.vertex == usize::from(u)));
+        if let [Some(up), Some(down)] = shown {
+            let child = if is_child(up, down) { up } else { down };
+            points_to(heads.remove(&(side, child.vertex)).unwrap_or_else(|| panic!("no head: {edge:?}")), up, down);
+        }
+    }
+    assert!(heads.is_empty(), "heads of no edge: {heads:?}");
+    assert_eq!(seen.legend().contains("Arrow heads point downstream."), edges().any(|(_, edge)| edge.label > 3));
+}
+
 fn checked(answer: &Answer) -> Seen {
     let seen = seen(&picture(answer, "plant.txt"));
     shows_the_mapping(&seen, answer);
     marks_changes(&seen, answer);
+    points_downstream(&seen, answer);
     nothing_overlaps(&seen);
     assert_eq!(seen.legend().contains("folded"), !seen.folded().is_empty());
     seen
@@ -506,6 +619,20 @@ fn the_cellar() {
     let seen = checked(&answer);
     assert_eq!((seen.circles.len(), seen.folded().len()), (38, 0));
     assert!(seen.circles.iter().all(|c| c.r == 11.0 || c.r == 10.3));
+}
+
+/// examples/flow.txt and its answer.
+#[test]
+fn the_flow() {
+    let recorded = shape("0 1 2 3 4 5 6", "0>1:4 1>2:5 2>3:5 3>4:5 5>4:7 3-6");
+    let found = shape("4 5 3 6 2 1 0", "5>6:4 4>5:5 4>2:5 2>0:6 1>0:7 3-2");
+    let devices = ["skimmer", "circulation pump", "filter", "heater", "inlet", "chlorine pump", "probe"];
+    let plant = plant(weights(7, &devices), weights(8, &EDGES), &recorded, &found);
+    let answer = answer(&plant, partners("- - 4 2 0 1 3"));
+    keep("flow.svg", &answer);
+    let seen = checked(&answer);
+    assert_eq!((seen.circles.len(), seen.all("path").len(), seen.all("polygon").len()), (14, 12, 10));
+    assert!(seen.legend().contains("7 dosing hose. Arrow heads point downstream. Edges thick and dashed"), "{}", seen.legend());
 }
 
 #[test]
@@ -620,7 +747,7 @@ fn random_trees_of_all_sizes() {
     for round in 0..rounds(600) {
         let n = 1 + random.below(64);
         let window = [1, 2, 5, 64][round % 4];
-        let (edge_labels, kind) = ([1, 2, 32][random.below(3)], random.below(3));
+        let (edge_labels, kind) = ([1, 2, 8][random.below(3)], random.below(3));
         let mut recorded = if round % 5 == 0 { labelled(n, &mut random) } else { grown(Shape::parents(&[]), n, window, &mut random) };
         labels(&mut recorded, 6, edge_labels, &mut random);
         let to = random.shuffled(n);
@@ -630,6 +757,7 @@ fn random_trees_of_all_sizes() {
         let odds = if edge_labels > 1 { 20 } else { 0 };
         let size = 1 + random.below(64);
         let (mut found, partner) = found_with(&recorded, &chosen, size, window, odds, &mut random);
+        free_edges(&mut found, &partner, edge_labels, &mut random);
         give_names(&mut recorded, kind, &mut random);
         give_names(&mut found, kind, &mut random);
         give_serials(&mut recorded, &mut random);
@@ -652,16 +780,19 @@ fn points(name: &str, mapped: usize, make: impl Fn(&mut Random) -> (Shape, usize
     let mut sizes = Vec::new();
     for round in 0..rounds(40) {
         let (mut recorded, window) = make(&mut random);
-        labels(&mut recorded, 6, 2, &mut random);
+        // without directed edges, and with them
+        let edge_labels = [2, 8][round / 2 % 2];
+        labels(&mut recorded, 6, edge_labels, &mut random);
         let chosen = part(&recorded, mapped, &mut random);
         let (mut found, partner) = found_with(&recorded, &chosen, 64, window, 5, &mut random);
+        free_edges(&mut found, &partner, edge_labels, &mut random);
         give_names(&mut recorded, round % 2, &mut random);
         give_names(&mut found, round % 2, &mut random);
-        let plant = plant(weights(6, &DEVICES), weights(2, &["pipe", "signal line"]), &recorded, &found);
+        let plant = plant(weights(6, &DEVICES), weights(edge_labels, &EDGES[..edge_labels]), &recorded, &found);
         let answer = answer(&plant, partner);
         let seen = checked(&answer);
         sizes.push((seen.points(), seen.width, seen.height, seen.folded().len()));
-        if round < 2 {
+        if round < 4 {
             keep(&format!("{name}-{mapped}-{round}.svg").replace(' ', "-"), &answer);
         }
     }

@@ -142,7 +142,7 @@ fn items_4_and_9_a_vertex_label_that_is_not_in_the_table() {
 #[test]
 fn items_4_and_9_an_edge_label_that_is_not_in_the_table() {
     refused_tree("recorded 0 0\n\n0-1:1\nfound 0\n", 4, "6:1: the edge 0-1:1 has label 1, and labels are 0 to 0");
-    refused_tree("recorded 0\nfound 0 0 0\n0-1  1-2:7\n", 9, "6:6: the edge 1-2:7 has label 7, and labels are 0 to 0");
+    refused_tree("recorded 0\nfound 0 0 0\n0-1  1>2:7\n", 9, "6:6: the edge 1>2:7 has label 7, and labels are 0 to 0");
 }
 
 #[test]

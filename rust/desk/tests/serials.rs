@@ -5,32 +5,11 @@ mod support;
 use support::json::Value;
 use support::plants::{examples, hex, of_repository, row, tree, NINE, ONE, TABLE, THREE, THREE_PLAIN};
 use support::report::{certain, report};
-use support::{said, Folder};
-
-/// The bytes of a text, which is a plant.
-fn bytes(text: &str) -> Vec<u8> {
-    Folder::with(&[("p", text)]).bytes(&["plant", "p"])
-}
-
-/// What a command prints for a plant, which ends well.
-fn out(plant: &str, arguments: &[&str]) -> String {
-    let folder = Folder::with(&[("p", plant)]);
-    let (out, err, status) = folder.run(&[arguments, &["p"]].concat());
-    assert_eq!((err.as_str(), status), ("", 0), "{arguments:?}\n{plant}");
-    out
-}
-
-/// A text that is no plant: the place and the reason on standard error, nothing else, status 2.
-fn wrong(text: &str, message: &str) {
-    let folder = Folder::with(&[("p", text)]);
-    for name in ["plant", "match", "text"] {
-        assert_eq!(folder.run(&[name, "p"]), said("", format!("p:{message}\n"), 2), "{text}");
-    }
-}
+use support::{bytes, out, said, wrong, Folder};
 
 /// Wrong lines after a recorded tree of three vertices A, 1 and C; they begin in line 6.
 fn wrong_lines(lines: &str, message: &str) {
-    wrong(&format!("{ONE}recorded A=0 0 C=0\nA-1 1-C\n{lines}\nfound 0\n"), message);
+    wrong(format!("{ONE}recorded A=0 0 C=0\nA-1 1-C\n{lines}\nfound 0\n"), message);
 }
 
 /// Small plant 3 with serials: 7 at recorded vertex 0 and 4294967295 at vertex 1; 256 at found vertex 0, none at 1.
@@ -50,23 +29,23 @@ fn serials() -> String {
 #[test]
 fn lines_of_serials_give_the_longer_records() {
     let both = hex(&format!("{TABLE} {RECORDED_SERIALS} {FOUND_SERIALS}"));
-    assert_eq!(bytes(&three("serials 7 4294967295\n", "serials 256 0\n")), both);
-    assert_eq!(bytes(&three("serials 1=4294967295 0=7\n", "serials 0=256\n")), both);
-    assert_eq!(bytes(&three("serials 7\n# between\nserials 0004294967295\n", "serials 0=00256\nserials 1=0\n")), both);
+    assert_eq!(bytes(three("serials 7 4294967295\n", "serials 256 0\n")), both);
+    assert_eq!(bytes(three("serials 1=4294967295 0=7\n", "serials 0=256\n")), both);
+    assert_eq!(bytes(three("serials 7\n# between\nserials 0004294967295\n", "serials 0=00256\nserials 1=0\n")), both);
 }
 
 #[test]
 fn each_tree_has_a_kind_of_its_own() {
-    assert_eq!(bytes(&three("serials 7 4294967295\n", "")), hex(&format!("{TABLE} {RECORDED_SERIALS} {FOUND}")));
+    assert_eq!(bytes(three("serials 7 4294967295\n", "")), hex(&format!("{TABLE} {RECORDED_SERIALS} {FOUND}")));
     let recorded = "B1 01 02 B1 02 00 B1 02 01 B1 03 00 01 00";
-    assert_eq!(bytes(&three("", "serials 256 0\n")), hex(&format!("{TABLE} {recorded} {FOUND_SERIALS}")));
+    assert_eq!(bytes(three("", "serials 256 0\n")), hex(&format!("{TABLE} {recorded} {FOUND_SERIALS}")));
 }
 
 #[test]
 fn serials_that_are_all_unknown_are_the_longer_records_too() {
     let zeros = "B1 01 02 B1 07 01 00 00 00 00 B1 07 00 00 00 00 00 B1 03 00 01 00";
     for line in ["serials 0 0\n", "serials 1=0\n"] {
-        assert!(bytes(&three("", line)).ends_with(&hex(zeros)), "{line}");
+        assert!(bytes(three("", line)).ends_with(&hex(zeros)), "{line}");
     }
 }
 
@@ -80,7 +59,7 @@ fn lines_of_serials_stand_anywhere_in_their_tree() {
         "A=0 B=0 \"C 3\"=0\nA-B\nB-2\n\tserials  A=5\t\"C  3\"=7 1=6 # three\n",
     ];
     for way in ways {
-        assert_eq!(bytes(&format!("{ONE}recorded {way}found 0\n")), bytes(&usual), "{way}");
+        assert_eq!(bytes(format!("{ONE}recorded {way}found 0\n")), bytes(&usual), "{way}");
     }
 }
 
@@ -119,8 +98,8 @@ fn there_is_a_serial_for_each_vertex() {
     wrong_lines("serials 1", &format!("6:1: the tree has 3 vertices and 1 serial; {wanted}"));
     wrong_lines("serials 1 2 3  4 5", "6:16: this serial is one too many; the tree has 3 vertices");
     wrong_lines("serials 1 2\nserials 3\nserials 4 5", "8:9: this serial is one too many; the tree has 3 vertices");
-    wrong(&format!("{ONE}recorded 0\nfound\nserials 0\n"), "6:9: this serial is one too many; the tree has 0 vertices");
-    wrong(&format!("{ONE}recorded 0\nfound 0\nserials 0 0\n"), "6:11: this serial is one too many; the tree has 1 vertex");
+    wrong(format!("{ONE}recorded 0\nfound\nserials 0\n"), "6:9: this serial is one too many; the tree has 0 vertices");
+    wrong(format!("{ONE}recorded 0\nfound 0\nserials 0 0\n"), "6:11: this serial is one too many; the tree has 1 vertex");
 }
 
 #[test]
@@ -141,8 +120,8 @@ fn a_serial_is_of_a_vertex_that_is_there_and_once() {
     wrong_lines("serials A-C=1", "6:9: `A-C` has a character that must stand in quotes");
     wrong_lines("serials A=1 C=2 A=1", "6:17: vertex 0 has its serial already");
     wrong_lines("serials A=1 C=0\nserials 2=2", "7:9: vertex 2 has its serial already");
-    wrong_lines("serials A=", "6:9: something is missing at `A=`; no blanks stand around `-`, `=` and `:`");
-    wrong_lines("serials =5", "6:9: something is missing at `=5`; no blanks stand around `-`, `=` and `:`");
+    wrong_lines("serials A=", "6:9: something is missing at `A=`; no blanks stand around `-`, `>`, `=` and `:`");
+    wrong_lines("serials =5", "6:9: something is missing at `=5`; no blanks stand around `-`, `>`, `=` and `:`");
     wrong_lines("serials \"\"=5", "6:9: a name or a number is missing here");
     wrong_lines("serials \"A=5", "6:9: this quote is not closed");
 }
@@ -154,14 +133,14 @@ fn the_two_forms_do_not_mix_in_a_tree() {
     wrong_lines("serials A=2 1", &format!("6:13: {reason}"));
     wrong_lines("serials 1 2\nserials 1 C=3", &format!("7:11: {reason}"));
     wrong_lines("serials C=3\n\nserials 1 2", &format!("8:9: {reason}"));
-    bytes(&three("serials 1 2\n", "serials 1=2\n"));
+    bytes(three("serials 1 2\n", "serials 1=2\n"));
 }
 
 #[test]
 fn serials_stand_in_a_tree_and_nowhere_else() {
     wrong("serials 1\n", "1:1: the first line is `labels K L`, not `serials`");
-    wrong(&format!("{ONE}serials 1\nrecorded 0\nfound 0\n"), "4:1: `serials` stands in a tree, after its first line");
-    let reason = "an edge is two vertices and a label, as 0-1 or 0-1:2, not `serials`";
+    wrong(format!("{ONE}serials 1\nrecorded 0\nfound 0\n"), "4:1: `serials` stands in a tree, after its first line");
+    let reason = "an edge is two vertices and a label, as 0-1, 0-1:2 or 0>1:4, not `serials`";
     wrong_lines("A-1 serials 1 2 3", &format!("6:5: {reason}"));
     let folder = Folder::with(&[("t", ONE), ("r", "serials 1\ntree 0\n"), ("f", "tree 0\n")]);
     assert_eq!(folder.run(&["match", "t", "r", "f"]), said("", "r:1:1: the recorded tree begins with `recorded`, not `serials`\n", 2));

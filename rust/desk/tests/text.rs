@@ -3,31 +3,13 @@
 mod support;
 
 use support::plants::{big, examples, hex, of_repository, row, three_bytes, FOUND, ONE, RECORDED, TABLE, THREE, THREE_PLAIN};
-use support::{said, Folder};
-
-/// The bytes of a text, which is a plant.
-fn bytes(text: impl AsRef<[u8]>) -> Vec<u8> {
-    let folder = Folder::new();
-    folder.put("p", text);
-    folder.bytes(&["plant", "p"])
-}
+use support::{bytes, said, wrong, Folder};
 
 /// The plain form of a text, which is a plant.
 fn plain(text: impl AsRef<[u8]>) -> String {
     let folder = Folder::new();
     folder.put("p", text);
     String::from_utf8(folder.bytes(&["text", "p"])).expect("UTF-8")
-}
-
-/// A text that is no plant: the place and the reason on standard error, nothing else, status 2.
-fn wrong(text: impl AsRef<[u8]>, message: &str) {
-    let folder = Folder::new();
-    folder.put("p", &text);
-    let (shown, expected) = (String::from_utf8_lossy(text.as_ref()), said("", format!("p:{message}\n"), 2));
-    for name in ["plant", "match"] {
-        assert_eq!(folder.run(&[name, "p"]), expected, "{shown}");
-    }
-    assert_eq!(folder.fed(&["plant", "-"], text.as_ref()), said("", format!("-:{message}\n"), 2), "{shown}");
 }
 
 /// Wrong lines after the table with one label each.
@@ -139,15 +121,15 @@ fn a_tree_is_written_with_255_vertices_at_most() {
 
 #[test]
 fn an_edge_is_two_vertices_and_perhaps_a_label() {
-    let shape = |word: &str| format!("an edge is two vertices and a label, as 0-1 or 0-1:2, not `{word}`");
+    let shape = |word: &str| format!("an edge is two vertices and a label, as 0-1, 0-1:2 or 0>1:4, not `{word}`");
     wrong("labels 1 1\n# none\nvertex 1\nedge 1\nrecorded 0 0\n0+1\n", &format!("6:1: {}", shape("0+1")));
     wrong_tree("recorded 0 0\n0-1 1\n", &format!("5:5: {}", shape("1")));
     wrong_tree("recorded 0 0\n0-1-2\n", &format!("5:1: {}", shape("0-1-2")));
     wrong_tree("recorded 0 0\n0:1\n", &format!("5:1: {}", shape("0:1")));
-    wrong_tree("recorded 0 0\n0-\n", "5:1: something is missing at `0-`; no blanks stand around `-`, `=` and `:`");
-    wrong_tree("recorded 0 0\n-1\n", "5:1: something is missing at `-1`; no blanks stand around `-`, `=` and `:`");
-    wrong_tree("recorded 0 0\n0 - 1\n", "5:3: something is missing at `-`; no blanks stand around `-`, `=` and `:`");
-    wrong_tree("recorded 0 0\n0-1:\n", "5:1: something is missing at `0-1:`; no blanks stand around `-`, `=` and `:`");
+    wrong_tree("recorded 0 0\n0-\n", "5:1: something is missing at `0-`; no blanks stand around `-`, `>`, `=` and `:`");
+    wrong_tree("recorded 0 0\n-1\n", "5:1: something is missing at `-1`; no blanks stand around `-`, `>`, `=` and `:`");
+    wrong_tree("recorded 0 0\n0 - 1\n", "5:3: something is missing at `-`; no blanks stand around `-`, `>`, `=` and `:`");
+    wrong_tree("recorded 0 0\n0-1:\n", "5:1: something is missing at `0-1:`; no blanks stand around `-`, `>`, `=` and `:`");
 }
 
 #[test]
@@ -466,8 +448,8 @@ fn quotes_that_are_open_empty_or_beside_something_are_errors() {
     wrong(format!("{NAMED}recorded 0 \"pump\\\"\n"), "6:12: this quote is not closed");
     wrong(format!("{NAMED}recorded \"\"\n"), "6:10: a name or a number is missing here");
     wrong(format!("{NAMED}recorded \" \"=0\n"), "6:10: a name or a number is missing here");
-    wrong(format!("{NAMED}recorded =0\n"), "6:10: something is missing at `=0`; no blanks stand around `-`, `=` and `:`");
-    wrong(format!("{NAMED}recorded A=\n"), "6:10: something is missing at `A=`; no blanks stand around `-`, `=` and `:`");
+    wrong(format!("{NAMED}recorded =0\n"), "6:10: something is missing at `=0`; no blanks stand around `-`, `>`, `=` and `:`");
+    wrong(format!("{NAMED}recorded A=\n"), "6:10: something is missing at `A=`; no blanks stand around `-`, `>`, `=` and `:`");
     wrong(format!("{NAMED}recorded \"pump\"s\n"), "6:16: a name in quotes stands by itself, and this is beside one");
     wrong(format!("{NAMED}recorded s\"pump\"\n"), "6:11: a name in quotes stands by itself, and this is beside one");
 }

@@ -35,13 +35,14 @@ use std::collections::BTreeSet;
 use std::panic::{catch_unwind, AssertUnwindSafe};
 use std::time::{Duration, Instant};
 
-/// The last two have what the old grammar had not.
-const EXAMPLES: [&str; 5] = [
+/// The last three have what the old grammar had not.
+const EXAMPLES: [&str; 6] = [
     include_str!("../../../examples/cellar.txt"),
     include_str!("../../../examples/pool.txt"),
     include_str!("../../../examples/small_plant_3.txt"),
     include_str!("../../../examples/named.txt"),
     include_str!("../../../examples/serials.txt"),
+    include_str!("../../../examples/flow.txt"),
 ];
 
 /// No input is longer.
@@ -126,8 +127,15 @@ const WRONG_IN_TABLE: [(&str, usize, &str); 15] = [
     ("found 0", 1, "after the recorded tree"),
     ("  serials 0", 3, "stands in a tree"),
 ];
-const WRONG_IN_TREE: [(&str, usize, &str); 35] = [
+const WRONG_IN_TREE: [(&str, usize, &str); 42] = [
     ("0", 1, "an edge is"),
+    ("0<1:4", 1, "an edge is"),
+    ("0-1:4", 2, "label 4, as all from 4 to 7, has a direction"),
+    ("\"a\"-1:7", 4, "label 7, as all from 4 to 7, has a direction"),
+    ("0>1:3", 2, "label 3, as all from 0 to 3, has no direction"),
+    ("0-1 a>1", 6, "label 0, as all from 0 to 3, has no direction"),
+    ("0-1 0> 1:4", 5, "no blanks"),
+    ("0>a>1:4", 1, "an edge is"),
     ("ä-1 0-", 5, "no blanks"),
     ("0-1:", 1, "no blanks"),
     ("0-256", 3, "0 to 255"),
@@ -262,11 +270,11 @@ fn is_let_stand(text: &[u8]) -> bool {
 #[test]
 fn what_the_old_grammar_takes_is_taken() {
     let mut random = Random::of_test("what_the_old_grammar_takes_is_taken");
-    let (mut whole, mut damaged, mut refused, mut let_stand) = (0, 0, 0, 0);
+    let (mut whole, mut damaged, mut refused, mut let_stand, mut directed) = (0, 0, 0, 0, 0);
     for _ in 0..40_000 {
         let text = old_text(&mut random);
-        let bytes = match old::old(&text.0) {
-            Some(bytes) => bytes,
+        let old = match old::old(&text.0) {
+            Some(old) => old,
             None => {
                 assert!(text.1, "a whole text:{}", shown(&files(&[text.0])));
                 refused += 1;
@@ -277,12 +285,21 @@ fn what_the_old_grammar_takes_is_taken() {
             let_stand += 1;
             continue;
         }
-        *(if text.1 { &mut damaged } else { &mut whole }) += 1;
         let texts = files(&[text.0]);
-        assert_eq!(Bytes::from(&plant_of(&texts)).joined(), bytes, "{}", shown(&texts));
+        if old.directed {
+            // its order of ends would mean something that it did not mean
+            let fault = read(&texts).expect_err("an edge has no direction");
+            assert!(fault.reason.contains("has a direction"), "{fault}{}", shown(&texts));
+            directed += 1;
+            continue;
+        }
+        *(if text.1 { &mut damaged } else { &mut whole }) += 1;
+        assert_eq!(Bytes::from(&plant_of(&texts)).joined(), old.bytes, "{}", shown(&texts));
     }
-    println!("taken: {whole} whole, {damaged} damaged; refused by the old one: {refused}; let stand by it: {let_stand}");
-    assert!(whole > 4000 && damaged > 4000 && refused > 4000);
+    println!(
+        "taken: {whole} whole, {damaged} damaged; refused by the old one: {refused}; let stand by it: {let_stand}; directed: {directed}"
+    );
+    assert!(whole > 4000 && damaged > 4000 && refused > 4000 && directed > 1000);
 }
 
 /// A text of the old grammar, and whether it is damaged.
@@ -411,7 +428,7 @@ fn judge_damaged(bytes: &Bytes, answer: &Answer, judged: &Judged, random: &mut R
 #[test]
 fn certain_is_what_all_heaviest_mappings_say() {
     let mut random = Random::of_test("certain_is_what_all_heaviest_mappings_say");
-    let (mut counts, mut damaged, mut by_serials) = (whole::Said::default(), 0, 0);
+    let (mut counts, mut damaged, mut by_serials, mut directed) = (whole::Said::default(), 0, 0, 0);
     for _ in 0..1200 {
         let made = Made::any(&mut random, Size::Small(5), false);
         let texts = files(&made.texts(&mut random));
@@ -420,6 +437,7 @@ fn certain_is_what_all_heaviest_mappings_say() {
         let answer = Answer::found(plant, &input.bytes).unwrap_or_else(|refusal| panic!("{refusal}{}", shown(&texts)));
         let judged = Judged::read(&made).ok().expect("an accepted plant");
         by_serials += judged.forbidden_by_serials();
+        directed += usize::from(made.trees.iter().all(|tree| tree.edges.iter().any(|edge| edge.2 > 3)));
         let right = catch_unwind(AssertUnwindSafe(|| whole::judge_certainty(&judged, &answer, &mut counts)));
         right.unwrap_or_else(|_| panic!("not so: {:?} {:?}{}", answer.certain, answer.found_certain, shown(&texts)));
         judge_printed(&texts, plant, &input.bytes, &answer);
@@ -427,7 +445,9 @@ fn certain_is_what_all_heaviest_mappings_say() {
     }
     println!("damaged answers that are answers still: {damaged}");
     println!("1200 plants, of their vertices: {counts:?}; pairs that serials alone forbid: {by_serials}");
-    assert!(counts.certain > 1000 && counts.another > 300 && counts.none > 100 && counts.unknown > 3 && by_serials > 400, "{counts:?}");
+    println!("with directed edges in both trees: {directed}");
+    assert!(counts.certain > 1000 && counts.another > 300 && counts.none > 100 && counts.unknown > 3, "{counts:?}");
+    assert!(by_serials > 400 && directed > 80, "{by_serials} {directed}");
 }
 
 #[test]

@@ -47,9 +47,9 @@ impl<'a> Rules<'a> {
         Some(self.certificate.partners[u]).filter(|&partner| partner != pensummer::NONE).map(usize::from)
     }
 
-    /// The weight of the pair of recorded edge ab and found edge cd; none if it is forbidden or an edge is not there.
+    /// The weight of recorded edge ab with found edge cd, a with c; none if it is forbidden or an edge is not there.
     fn edge_pair(&self, [a, b]: [usize; 2], [c, d]: [usize; 2]) -> Option<i32> {
-        allowed(self.plant.table.edge.rows[self.recorded.edge(a, b)?][self.found.edge(c, d)?])
+        allowed(self.plant.edge_pair_weight(self.recorded.edge(a, b)?, self.found.edge(c, d)?))
     }
 
     /// Item 21: the first vertex whose partner breaks a rule, alone or together with an earlier one; then whether the
@@ -90,9 +90,10 @@ impl<'a> Rules<'a> {
         match (self.recorded.edge(w, u), self.found.edge(x, v)) {
             (Some(_), None) => Some(format!("{} are joined, but their partners, {}, are not", both(), theirs())),
             (None, Some(_)) => Some(format!("{} are not joined, but their partners, {}, are", both(), theirs())),
-            (Some(a), Some(b)) if allowed(self.plant.table.edge.rows[a][b]).is_none() => {
-                let [a, b] = [a, b].map(|label| self.plant.table.edge.called(label));
-                Some(format!("{} have the partners {}; the pair of their edges, {a} and {b}, is forbidden", both(), theirs()))
+            (Some(a), Some(b)) if allowed(self.plant.edge_pair_weight(a, b)).is_none() => {
+                let why = a.apart(b);
+                let [a, b] = [a, b].map(|link| self.plant.table.edge.called(link.label));
+                Some(format!("{} have the partners {}; the pair of their edges, {a} and {b}, is forbidden{why}", both(), theirs()))
             }
             _ => None,
         }

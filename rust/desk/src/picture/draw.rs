@@ -1,6 +1,7 @@
 //! Writes a picture as SVG.
+use super::heads::Head;
 use super::layout::{FOUND, RECORDED};
-use super::sheet::{Sheet, BESIDE, CLEAR, HEADING, LEADING, MARGIN, NOTE, TITLE, TOP};
+use super::sheet::{sign, Sheet, BESIDE, CLEAR, HEADING, LEADING, MARGIN, NOTE, THICK, TITLE, TOP};
 use super::{widths, words};
 use std::fmt;
 
@@ -41,6 +42,7 @@ pub fn svg(sheet: &Sheet, title: &str) -> String {
     out += &across(sheet);
     for side in [RECORDED, FOUND] {
         out += &lines(sheet, side);
+        out += &heads(sheet, side);
         out += &edge_labels(sheet, side);
         out += &vertices(sheet, side);
     }
@@ -90,29 +92,26 @@ fn colour(sheet: &Sheet, side: usize, u: usize) -> &'static str {
     PALETTE[sheet.layout.stand[side].row[u] % PALETTE.len()]
 }
 
-/// 1 if a tree grows to the right, -1 if to the left.
-fn sign(side: usize) -> f64 {
-    if side == RECORDED {
-        1.0
-    } else {
-        -1.0
-    }
-}
-
 /// The edges that are shown, by their lower vertex, with the upper one.
 fn edges<'a>(sheet: &'a Sheet, side: usize) -> impl Iterator<Item = (usize, usize)> + 'a {
     let shown = (0..sheet.texts[side].len()).filter(move |&u| sheet.layout.stand[side].row[u] > 0);
     shown.filter_map(move |u| sheet.layout.hung[side].rooted.parent[u].map(|parent| (u, parent)))
 }
 
+/// Whether both ends of an edge have partners.
+fn is_mapped(sheet: &Sheet, side: usize, u: usize, parent: usize) -> bool {
+    let mate = sheet.layout.hung[side].mate;
+    mate[u].is_some() && mate[parent].is_some()
+}
+
 /// The edges: grey where a vertex has no partner, then the others, changed ones last so that they lie on top.
 fn lines(sheet: &Sheet, side: usize) -> String {
-    let mate = sheet.layout.hung[side].mate;
     let mut parts = [String::new(), String::new(), String::new()];
+    let thick = format!("class=\"changed\" stroke-width=\"{}\" stroke-dasharray=\"4 2.5\" ", N(THICK));
     for (u, parent) in edges(sheet, side) {
         let changed = words::is_changed(&sheet.layout, side, u);
-        let mapped = mate[u].is_some() && mate[parent].is_some();
-        let marks = if changed { "class=\"changed\" stroke-width=\"4\" stroke-dasharray=\"4 2.5\" " } else { "" };
+        let mapped = is_mapped(sheet, side, u, parent);
+        let marks = if changed { &thick } else { "" };
         parts[usize::from(mapped) + usize::from(changed)] += &format!("<path {marks}d=\"{}\"/>\n", line(sheet, side, u, parent));
     }
     let [grey, same, changed] = parts;
@@ -126,11 +125,35 @@ fn line(sheet: &Sheet, side: usize, u: usize, parent: usize) -> String {
     let (x, y, from) = (sheet.x(side, parent), sheet.y(side, u), sheet.y(side, parent));
     let bend = if y > from { 1.0 } else { -1.0 };
     let begin = format!("M{} {}", N(x), N(from + bend * sheet.style.radius));
+    let head = Head::of(sheet, side, u, parent);
     if sheet.layout.stand[side].straight[u] {
-        return format!("{begin} V{}", N(y - bend * sheet.style.radius));
+        return begin + &piece('V', y - bend * sheet.style.radius, head);
     }
     let (corner, end) = (x + sign(side) * sheet.round, sheet.x(side, u) - sign(side) * sheet.style.radius);
-    format!("{begin} V{} Q{} {} {} {} H{}", N(y - bend * sheet.round), N(x), N(y), N(corner), N(y), N(end))
+    format!("{begin} V{} Q{} {} {} {}{}", N(y - bend * sheet.round), N(x), N(y), N(corner), N(y), piece('H', end, head))
+}
+
+/// The last piece of a line: to its end, to the head that stands there, or on behind a head that points to the parent.
+fn piece(way: char, end: f64, head: Option<Head>) -> String {
+    let along = |place: [f64; 2]| N(place[usize::from(way == 'V')]);
+    match head {
+        None => format!(" {way}{}", N(end)),
+        Some(head) if head.to_child => format!(" {way}{}", along(head.base)),
+        Some(head) => format!(" {way}{} M{} {} {way}{}", along(head.tip), N(head.base[0]), N(head.base[1]), N(end)),
+    }
+}
+
+/// The heads of the directed edges, in the colours of their lines.
+fn heads(sheet: &Sheet, side: usize) -> String {
+    let mut out = String::new();
+    for (u, parent) in edges(sheet, side) {
+        let colour = if is_mapped(sheet, side, u, parent) { "#222" } else { "#9a9a9a" };
+        if let Some(head) = Head::of(sheet, side, u, parent) {
+            let points = head.corners(sheet.style.head()[1]).map(|[x, y]| format!("{},{}", N(x), N(y))).join(" ");
+            out += &format!("<polygon class=\"head\" points=\"{points}\" fill=\"{colour}\"/>\n");
+        }
+    }
+    out
 }
 
 /// The labels of edges: above the line to a vertex; at a straight one beside the line.
@@ -140,7 +163,7 @@ fn edge_labels(sheet: &Sheet, side: usize) -> String {
     for (u, _) in edges(sheet, side) {
         let straight = sheet.layout.stand[side].straight[u];
         let (away, up) =
-            if straight { (0.7 * style.radius, style.height / 2.0 - 0.36 * style.edge) } else { (style.radius + 2.0, style.lift) };
+            if straight { (0.7 * style.radius, sheet.above(side, u) / 2.0 - 0.36 * style.edge) } else { (style.radius + 2.0, style.lift) };
         let (x, y) = (sheet.x(side, u) - sign(side) * away, sheet.y(side, u) - up);
         let bold = if words::is_changed(&sheet.layout, side, u) { " font-weight=\"bold\"" } else { "" };
         if let Some(label) = words::edge_label(sheet.answer, &sheet.layout, side, u) {

@@ -1,6 +1,6 @@
 //! How large everything in a picture is, and where: the first of some styles that can be read on a printed page.
 use super::layout::{Layout, FOUND, RECORDED};
-use super::{widths, words};
+use super::{heads, widths, words};
 use crate::answer::Answer;
 
 /// A4 upright with margins of 10 mm, in points.
@@ -23,10 +23,14 @@ pub const LEADING: f64 = 18.0;
 pub const BESIDE: f64 = 5.0;
 pub const CLEAR: f64 = 6.0;
 
+/// The radius of the corners of tree lines, where there is room, and the width of those of changed edges.
+const ROUND: f64 = 6.0;
+pub const THICK: f64 = 4.0;
+
 pub struct Style {
     narrow: bool,
     /// Of a row.
-    pub height: f64,
+    height: f64,
     /// Of a circle; a hollow one is as large.
     pub radius: f64,
     /// Font sizes: of labels, of numbers in circles, of edge labels.
@@ -58,6 +62,23 @@ const fn style(narrow: bool, row: [f64; 2], fonts: [f64; 3], lift: f64, across: 
     Style { narrow, height, radius, label, number, edge, lift, width, gap, indent, largest_step }
 }
 
+impl Style {
+    /// The length of an arrow head, and half of its width, which leaves the labels above the line free.
+    pub fn head(&self) -> [f64; 2] {
+        let half = 1.2 * (self.lift - 1.0);
+        [1.6 * half, half]
+    }
+}
+
+/// 1 if a tree grows to the right, -1 if to the left.
+pub fn sign(side: usize) -> f64 {
+    if side == RECORDED {
+        1.0
+    } else {
+        -1.0
+    }
+}
+
 /// A picture before it is written.
 pub struct Sheet<'a> {
     pub answer: &'a Answer<'a>,
@@ -65,6 +86,8 @@ pub struct Sheet<'a> {
     pub style: &'static Style,
     /// Of each vertex the text beside it.
     pub texts: [Vec<String>; 2],
+    /// The middle of each row; the first is where they begin.
+    middles: Vec<f64>,
     pub step: f64,
     /// The radius of the corners of tree lines.
     pub round: f64,
@@ -94,9 +117,9 @@ impl<'a> Sheet<'a> {
             let vertices = 0..layout.hung[side].tree.size();
             vertices.map(|u| words::beside(answer, &layout, side, u, style.label)).collect()
         });
-        let step = step(answer, &layout, style);
-        let round = (step - style.radius - 1.0).min(6.0);
-        let mut sheet = Sheet { answer, layout, style, texts, step, round, notes: Vec::new(), width: 0.0, height: 0.0 };
+        let (middles, step) = (middles(&layout, style), step(answer, &layout, style));
+        let round = (step - style.radius - 1.0).min(ROUND);
+        let mut sheet = Sheet { answer, layout, style, texts, middles, step, round, notes: Vec::new(), width: 0.0, height: 0.0 };
         sheet.width = sheet.needed_width();
         for paragraph in words::legend(answer, &sheet.layout) {
             sheet.notes.extend(widths::lines(&paragraph, NOTE, sheet.width - 2.0 * MARGIN));
@@ -121,12 +144,18 @@ impl<'a> Sheet<'a> {
     }
 
     pub fn y(&self, side: usize, u: usize) -> f64 {
-        TOP + (self.layout.stand[side].row[u] as f64 - 0.5) * self.style.height
+        self.middles[self.layout.stand[side].row[u]]
+    }
+
+    /// How far the row of a vertex is from the one above.
+    pub fn above(&self, side: usize, u: usize) -> f64 {
+        let row = self.layout.stand[side].row[u];
+        self.middles[row] - self.middles[row - 1]
     }
 
     /// Where the rows end.
     pub fn bottom(&self) -> f64 {
-        TOP + self.layout.rows as f64 * self.style.height
+        self.middles[self.layout.rows] + self.style.height / 2.0
     }
 
     /// How far the middle of an indented circle is from the picture's edge.
@@ -161,11 +190,37 @@ impl<'a> Sheet<'a> {
     }
 }
 
-/// How far a child is indented: so far that the label of its edge has room, and further where the tree is not deep.
+/// The vertices of both trees that are shown, each after its side.
+fn shown<'a>(layout: &'a Layout) -> impl Iterator<Item = (usize, usize)> + 'a {
+    [RECORDED, FOUND].into_iter().flat_map(|side| layout.stand[side].order.iter().map(move |&u| (side, u)))
+}
+
+/// Where rows begin, and the middle of each: where a head has no other place than between two circles, these are so far
+/// apart that it has room.
+fn middles(layout: &Layout, style: &Style) -> Vec<f64> {
+    let mut heights = vec![style.height; layout.rows + 1];
+    heights[0] = TOP;
+    heights[1] = style.height / 2.0;
+    for (side, u) in shown(layout).filter(|&(side, u)| layout.stand[side].straight[u]) {
+        let (hung, row) = (&layout.hung[side], |u: usize| layout.stand[side].row[u]);
+        let above = hung.rooted.parent[u].filter(|&parent| row(parent) + 1 == row(u));
+        if above.and_then(|parent| hung.graph.edge(u, parent)?.direction.ends(u, parent)).is_some() {
+            heights[row(u)] = style.height.max(2.0 * (style.radius + heads::CLEAR) + style.head()[0]);
+        }
+    }
+    let mut at = 0.0;
+    let next = |height: f64| {
+        at += height;
+        at
+    };
+    heights.into_iter().map(next).collect()
+}
+
+/// How far a child is indented: so far that the label of its edge has room, which is more than a head takes, and further
+/// where the tree is not deep.
 fn step(answer: &Answer, layout: &Layout, style: &Style) -> f64 {
-    let both = || [RECORDED, FOUND].into_iter().flat_map(|side| layout.stand[side].order.iter().map(move |&u| (side, u)));
-    let deepest = both().map(|(side, u)| layout.stand[side].indent[u]).max().unwrap_or(0).max(1);
-    let labels = both().filter_map(|(side, u)| words::edge_label(answer, layout, side, u));
+    let deepest = shown(layout).map(|(side, u)| layout.stand[side].indent[u]).max().unwrap_or(0).max(1);
+    let labels = shown(layout).filter_map(|(side, u)| words::edge_label(answer, layout, side, u));
     let widest = labels.map(|label| widths::bold(&label, style.edge)).fold(0.0, f64::max);
     let least = (style.radius + 5.5 + widest).ceil();
     (style.indent / deepest as f64).floor().min(style.largest_step).max(least)

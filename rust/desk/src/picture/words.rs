@@ -105,9 +105,9 @@ pub fn is_changed(layout: &Layout, side: usize, u: usize) -> bool {
 /// The label of the edge of a vertex to its parent; nothing if there is only one edge label.
 pub fn edge_label(answer: &Answer, layout: &Layout, side: usize, u: usize) -> Option<String> {
     let hung = &layout.hung[side];
-    let label = hung.rooted.parent[u].and_then(|parent| hung.graph.edge(u, parent))?;
+    let link = hung.rooted.parent[u].and_then(|parent| hung.graph.edge(u, parent))?;
     let mark = if is_changed(layout, side, u) { "!" } else { "" };
-    Some(format!("{label}{mark}")).filter(|_| answer.plant.table.edge.labels() > 1)
+    Some(format!("{}{mark}", link.label)).filter(|_| answer.plant.table.edge.labels() > 1)
 }
 
 /// The paragraphs below the trees.
@@ -140,7 +140,9 @@ fn edges(answer: &Answer) -> String {
     let names = &answer.plant.table.edge.names;
     let named: Vec<String> = names.iter().enumerate().map(|(label, name)| format!("{label} {name}")).collect();
     let colon = if named.is_empty() { "" } else { ": " };
-    format!("Numbers at edges are edge labels{colon}{}.", named.join(", "))
+    let directed = [&answer.plant.recorded, &answer.plant.found].iter().any(|tree| tree.is_directed());
+    let heads = if directed { " Arrow heads point downstream." } else { "" };
+    format!("Numbers at edges are edge labels{colon}{}.{heads}", named.join(", "))
 }
 
 /// What `?` means in this picture.

@@ -3,8 +3,7 @@
 
 use crate::plants::{Random, X};
 use desk::certificate::{Certificate, Record};
-use desk::graph::Graph;
-use desk::plant::Plant;
+use desk::plant::{Edge, Plant};
 use pensummer::WEIGHT_MOST;
 
 pub fn number(bytes: &[u8], at: usize) -> i32 {
@@ -187,7 +186,6 @@ fn mapping_weighed(whole: &Whole, random: &mut Random, bytes: &mut Vec<u8>) {
 
 /// The sum over vertex pairs and edge pairs; what is forbidden or not joined adds nothing.
 fn mapping_weight(plant: &Plant, partners: &[u8]) -> i32 {
-    let found = Graph::of(&plant.found);
     let partner = |u: usize| Some(usize::from(partners[u])).filter(|&v| v < plant.found.size());
     let serial = |tree: &desk::plant::Tree, at: usize| tree.serials.as_ref().map_or(0, |serials| serials[at].number);
     let vertex = |u: usize| {
@@ -196,9 +194,13 @@ fn mapping_weight(plant: &Plant, partners: &[u8]) -> i32 {
         let weight = plant.table.vertex.rows[plant.recorded.label(u)][plant.found.label(v)];
         Some(if a != 0 && b != 0 && a != b { X } else { weight })
     };
-    let edge = |edge: &desk::plant::Edge| {
+    let edge = |edge: &Edge| {
         let [a, b] = edge.ends.map(|end| partner(end.into()));
-        Some(plant.table.edge.rows[usize::from(edge.label)][found.edge(a?, b?)?])
+        let (a, b) = (a?, b?);
+        let other = plant.found.edges.iter().find(|other| [[a, b], [b, a]].contains(&other.ends.map(usize::from)))?;
+        let directed = [edge, other].map(|edge| edge.label > 3);
+        let along = directed == [false; 2] || directed == [true; 2] && other.ends.map(usize::from) == [a, b];
+        Some(if along { plant.table.edge.rows[usize::from(edge.label)][usize::from(other.label)] } else { X })
     };
     let pairs = (0..plant.recorded.size()).filter_map(vertex).chain(plant.recorded.edges.iter().filter_map(edge));
     pairs.filter(|&weight| weight != X).sum()

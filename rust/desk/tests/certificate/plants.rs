@@ -132,7 +132,8 @@ fn random_serials(random: &mut Random, tree: Tree) -> Tree {
 }
 
 pub fn random_plant(random: &mut Random, sizes: [usize; 2]) -> Plant {
-    let labels = [1 + random.below(4), 1 + random.below(3)];
+    // of eight edge labels half are of directed edges
+    let labels = [1 + random.below(4), random.pick(&[1, 2, 3, 5, 8, 8])];
     let table = table(random_weights(random, labels[0]), random_weights(random, labels[1]));
     let degree = random.pick(&[2, 3, 8]);
     let [recorded, found] = sizes.map(|size| random_tree(random, size, degree, labels));

@@ -100,6 +100,32 @@ impl Folder {
     }
 }
 
+/// What a command prints for a plant in the file `p`, which ends well.
+pub fn out(plant: &str, arguments: &[&str]) -> String {
+    let folder = Folder::with(&[("p", plant)]);
+    let (out, err, status) = folder.run(&[arguments, &["p"]].concat());
+    assert_eq!((err.as_str(), status), ("", 0), "{arguments:?}\n{plant}");
+    out
+}
+
+/// The bytes of a text, which is a plant.
+pub fn bytes(text: impl AsRef<[u8]>) -> Vec<u8> {
+    let folder = Folder::new();
+    folder.put("p", text);
+    folder.bytes(&["plant", "p"])
+}
+
+/// A text that is no plant: the place and the reason on standard error, nothing else, status 2.
+pub fn wrong(text: impl AsRef<[u8]>, message: &str) {
+    let folder = Folder::new();
+    folder.put("p", &text);
+    let (shown, expected) = (String::from_utf8_lossy(text.as_ref()), said("", format!("p:{message}\n"), 2));
+    for name in ["plant", "match", "text"] {
+        assert_eq!(folder.run(&[name, "p"]), expected, "{shown}");
+    }
+    assert_eq!(folder.fed(&["plant", "-"], text.as_ref()), said("", format!("-:{message}\n"), 2), "{shown}");
+}
+
 impl Drop for Folder {
     fn drop(&mut self) {
         // a test may have closed it

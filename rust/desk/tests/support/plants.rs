@@ -39,7 +39,8 @@ pub fn of_repository(name: &str) -> Vec<u8> {
 /// The examples, each with its name.
 pub fn examples() -> Vec<(&'static str, String)> {
     let text = |name: &str| String::from_utf8(of_repository(&format!("examples/{name}"))).expect("UTF-8");
-    ["cellar.txt", "named.txt", "pool.txt", "serials.txt", "small_plant_3.txt"].iter().map(|name| (*name, text(name))).collect()
+    let names = ["cellar.txt", "flow.txt", "named.txt", "pool.txt", "serials.txt", "small_plant_3.txt"];
+    names.map(|name| (name, text(name))).to_vec()
 }
 
 /// A row of numbers after a word.
@@ -91,7 +92,8 @@ fn big_tree(random: &mut Random, word: &str) -> String {
         }
         used[above as usize] += 1;
         used[i as usize] = 1;
-        text += &format!("{i}-{above}:{}\n", random.below(8));
+        let label = random.below(8);
+        text += &format!("{i}{}{above}:{label}\n", if label < 4 { '-' } else { '>' });
     }
     text
 }

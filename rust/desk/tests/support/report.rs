@@ -6,7 +6,7 @@ const REFUSAL: [&str; 4] = ["item", "sentence", "place", "reason"];
 const PLACE: [&str; 4] = ["file", "line", "column", "byte"];
 const VERTEX: [&str; 12] =
     ["vertex", "name", "label", "label_name", "serial", "state", "partner", "certain", "otherwise", "weight", "edge", "same_name"];
-const EDGE: [&str; 5] = ["to", "label", "partner_label", "weight", "certain"];
+const EDGE: [&str; 6] = ["to", "label", "partner_label", "upstream", "weight", "certain"];
 const CERTIFICATE: [&str; 4] = ["length", "accepted", "mapping", "subproblems"];
 const SIZES: [&str; 4] = ["subproblems", "work", "mapping", "certificate"];
 const SUBPROBLEM: [&str; 7] = ["recorded", "found", "without", "byte", "value", "recorded_duals", "found_duals"];

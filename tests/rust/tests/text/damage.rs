@@ -3,13 +3,13 @@ use pensummer_tests::random::Random;
 
 /// What stands in the way of a reader, between bars.
 const ODD: &[u8] = b"\"|\\|\\\"|#|=|-|:|,|\0|\r|\n|\t| |\x0B|\x7F|\xFF|\xC3|\xED\xA0\x80|\xEF\xBB\xBF|\xC2\x9B|\xE2\x80\xA8|\"a\tb\"|\
-    99999999999999999999|-1|256|-2147483649|0-1|a=0|\"\"|forbidden|\nfound 0\n|\nlabels 1 1\n|\ntree|\
+    99999999999999999999|-1|256|-2147483649|0-1|>|0>1:4|:5|a=0|\"\"|forbidden|\nfound 0\n|\nlabels 1 1\n|\ntree|\
     \nserials 0 1\n|\nserials 0=7\n|4294967296|serials ";
 
 /// Words of the grammar, and what looks like some, between bars.
 const WORDS: &str = "labels|vertex|edge|vertex-names|edge-names|vertex-default|edge-default|vertex-equal|edge-equal|vertex-pair|edge-pair|\
     recorded|found|tree|serials|\nserials|\nserials 7 8|0=7|a=4294967295|1=4294967296|forbidden|0|1|2|00|-5|255|256|4294967296|a|b|a,b|,|P1=0|P2=a|a=1|\"a b\"=0|\"a b\"|0-1|1-0:0|a-P1|P1-P2:a|\
-    \"a b\"-0|1-2:1|=|-|:|\"|\\|#|\"\\\"\"=1|vertex-|edge-x";
+    0>1:4|P1>0:7|a>P1|0-1:5|>|\"a b\"-0|1-2:1|=|-|:|\"|\\|#|\"\\\"\"=1|vertex-|edge-x";
 
 /// Damages a text once.
 pub fn damage(text: &mut Vec<u8>, random: &mut Random) {
@@ -115,7 +115,7 @@ pub fn salad(random: &mut Random) -> Vec<u8> {
 const BEGIN: &str = "labels 1 1\nvertex 1\nedge 1\nrecorded a=0 \"b c\"=0\n";
 
 /// What a long text is of, how it begins, and what follows again and again.
-const LONG: [(&str, &str, &str); 24] = [
+const LONG: [(&str, &str, &str); 26] = [
     ("blank lines", "", "\n"),
     ("blanks", "", " \t"),
     ("comment signs", "", "#"),
@@ -133,6 +133,8 @@ const LONG: [(&str, &str, &str); 24] = [
     ("edges by quoted names", BEGIN, "\"b c\"-a:0\n"),
     ("vertices", BEGIN, "x=0 "),
     ("minus signs", BEGIN, "-"),
+    ("directed edges", BEGIN, "0>1:4 "),
+    ("greater signs", BEGIN, "0>"),
     ("UTF-8 that ends badly", "labels 1 1\nvertex-names ", "ä\u{10ffff}"),
     ("no known name", BEGIN, "a-z "),
     ("lines of names", "labels 1 1\n", "edge-names a\nvertex-names b\n"),

@@ -218,8 +218,9 @@ impl Tree {
 impl Made {
     pub fn any(random: &mut Random, size: Size, old: bool) -> Made {
         let (k, l) = match size {
-            Size::Small(_) | Size::Wrong => (1 + random.below(4), 1 + random.below(3)),
-            Size::Accepted => *random.pick(&[(32, 8), (1, 1), (32, 1), (7, 3)]),
+            // the last two have directed edges; the old grammar is to have few
+            Size::Small(_) | Size::Wrong => (1 + random.below(4), *random.pick(&[1, 2, 3, 6, 8][..if old { 4 } else { 5 }])),
+            Size::Accepted => *random.pick(&[(32, 8), (1, 1), (32, 1), (7, 3), (7, 8)]),
             Size::Any if random.once_in(60) => (random.below(256), random.below(256)),
             Size::Any => {
                 let (k, l) = (if random.once_in(8) { 40 } else { 5 }, if random.once_in(8) { 12 } else { 4 });

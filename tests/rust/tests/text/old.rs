@@ -15,11 +15,19 @@ struct Reader {
     labels: [usize; 2],
     rows: [usize; 2],
     named: [bool; 2],
+    directed: bool,
 }
 
-/// The bytes that the old tool gave, or none where it refused the text.
-pub fn old(text: &[u8]) -> Option<Vec<u8>> {
-    let mut reader = Reader { want: Want::Labels, out: Vec::new(), labels: [0; 2], rows: [0; 2], named: [false; 2] };
+/// What the old tool gave.
+pub struct Old {
+    pub bytes: Vec<u8>,
+    /// Whether an edge has a label that has a direction today; that tool knew none.
+    pub directed: bool,
+}
+
+/// What the old tool gave, or none where it refused the text.
+pub fn old(text: &[u8]) -> Option<Old> {
+    let mut reader = Reader { want: Want::Labels, out: Vec::new(), labels: [0; 2], rows: [0; 2], named: [false; 2], directed: false };
     for line in text.split(|&b| b == b'\n') {
         let line = line.strip_suffix(b"\r").unwrap_or(line);
         let line = line.split(|&b| b == b'#').next().unwrap_or(line);
@@ -29,7 +37,7 @@ pub fn old(text: &[u8]) -> Option<Vec<u8>> {
         }
     }
     if reader.want == Want::End {
-        Some(reader.out)
+        Some(Old { bytes: reader.out, directed: reader.directed })
     } else {
         None
     }
@@ -131,6 +139,7 @@ impl Reader {
             None => (word, 0),
         };
         let at = ends.iter().position(|&b| b == b'-')?;
+        self.directed |= (4..=7).contains(&label);
         self.out.extend([177, 3, byte(&ends[..at])?, byte(&ends[at + 1..])?, label]);
         Some(())
     }

@@ -212,8 +212,17 @@ impl Writer<'_> {
         }
     }
 
+    /// The sign between the ends of an edge: that of its label, which one that is none of edges has not.
+    fn sign(&mut self, label: usize) -> char {
+        match label {
+            4..=7 if !self.old => '>',
+            8.. if !self.old => *self.random.pick(&['-', '>']),
+            _ => '-',
+        }
+    }
+
     fn edge(&mut self, made: &Made, tree: &Tree, (a, b, label): (usize, usize, usize)) -> String {
-        let ends = format!("{}-{}", self.edge_end(tree, a), self.edge_end(tree, b));
+        let ends = format!("{}{}{}", self.edge_end(tree, a), self.sign(label), self.edge_end(tree, b));
         if label == 0 && self.random.once_in(2) {
             return ends;
         }
