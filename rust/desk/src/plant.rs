@@ -1,7 +1,7 @@
 //! A plant as people give it: a weight table and two trees, with names for people and with the place in the input where
 //! each part stands.
 use crate::words::shown;
-use pensummer::{EDGE_LABELS_MOST, FORBIDDEN};
+use pensummer::{DIRECTED_FROM, EDGE_LABELS_MOST, FORBIDDEN};
 use std::fmt;
 use std::ops::Range;
 use std::rc::Rc;
@@ -83,7 +83,7 @@ pub struct Vertex {
 }
 
 /// The labels of directed edges. Smaller ones are of undirected edges, larger ones of none.
-pub const DIRECTED: Range<usize> = 4..EDGE_LABELS_MOST;
+pub const DIRECTED: Range<usize> = DIRECTED_FROM..EDGE_LABELS_MOST;
 
 #[derive(Clone, Debug, PartialEq, Eq)]
 pub struct Edge {
