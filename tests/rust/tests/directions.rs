@@ -39,6 +39,12 @@ fn directed_plant(shapes: &[Shape], random: &mut Random) -> Inputs {
     std::iter::repeat_with(|| plants::small_plant(shapes, random)).find(directions::some).expect("a plant")
 }
 
+/// The certificate of a plant.
+fn written(inputs: &Inputs, random: &mut Random) -> Vec<u8> {
+    let sizes = compare::sizes(inputs).expect("an accepted plant");
+    compare::write(inputs, sizes.work, sizes.certificate, random).expect("a written certificate")
+}
+
 /// Every pair of labels under every number of labels, either end first in either tree: so the upstream end is the parent, or the child.
 #[test]
 fn which_pairs() {
@@ -96,7 +102,7 @@ fn heaviest_by_exhaustive_search() {
     let mut random = Random::of_test("directions heaviest_by_exhaustive_search");
     let shapes = small_shapes();
     let (mut decided, mut tried, mut mappings) = (Decided::default(), 0, 0);
-    while tried < 4_000 {
+    while tried < 3_000 {
         let inputs = directed_plant(&shapes, &mut random);
         let plant = Plant::read(&inputs).expect("an accepted plant");
         let (heaviest, count) = mapping::search(&plant);
@@ -136,7 +142,7 @@ fn renumbered_and_turned() {
     let mut random = Random::of_test("renumbered_and_turned");
     let shapes = small_shapes();
     let mut changed = 0;
-    for _ in 0..4_000 {
+    for _ in 0..3_000 {
         let inputs = directed_plant(&shapes, &mut random);
         let (recorded, found) = (plants::renumbered(&inputs.recorded, &mut random), plants::renumbered(&inputs.found, &mut random));
         let other = Inputs { recorded, found, ..inputs.clone() };
@@ -145,7 +151,7 @@ fn renumbered_and_turned() {
         directions::turn_one(&mut turned, &mut random);
         changed += usize::from(weight(&turned) != weight(&inputs));
     }
-    assert!(changed > 200, "{changed}");
+    assert!(changed > 150, "{changed}");
     println!("{changed} weights changed by an edge turned round");
 }
 
@@ -156,26 +162,25 @@ fn certificates_under_other_directions() {
     let mut random = Random::of_test("certificates_under_other_directions");
     let shapes = small_shapes();
     let mut numbers = [0; ITEMS + 1];
-    for _ in 0..4_000 {
+    for _ in 0..3_000 {
         let mut inputs = directed_plant(&shapes, &mut random);
-        let sizes = compare::sizes(&inputs).expect("an accepted plant");
-        let certificate = compare::write(&inputs, sizes.work, sizes.certificate, &mut random).expect("a written certificate");
+        let certificate = written(&inputs, &mut random);
         directions::turn_one(&mut inputs, &mut random);
         numbers[compare::check(&inputs, &certificate) as usize] += 1;
     }
     assert!([0, 21, 23].iter().all(|&item| numbers[item] > 100), "{numbers:?}");
-    assert_eq!(numbers[0] + numbers[21] + numbers[23], 4_000, "{numbers:?}");
+    assert_eq!(numbers[0] + numbers[21] + numbers[23], 3_000, "{numbers:?}");
     println!("certificates by number {numbers:?}");
 }
 
-/// Recorded u with found v and a neighbour of each: the edges between are forbidden by their directions alone.
+/// Two joined vertices with two joined partners, where only directions forbid the pair of edges.
 struct Against {
     partners: Vec<u8>,
-    /// What the table says of these two pairs and of the edges between.
+    /// What the table says of the two pairs of vertices and the pair of edges.
     weight: i32,
 }
 
-/// All of them in a plant.
+/// All that there are in a plant.
 fn against(plant: &Plant) -> Vec<Against> {
     let ignoring = directions::ignored(plant);
     let joined = |neighbours: &[Vec<usize>]| -> Vec<(usize, usize)> {
@@ -195,37 +200,48 @@ fn against(plant: &Plant) -> Vec<Against> {
         .collect()
 }
 
+/// A certificate's mapping may have none of these, alone and with the weight that the table gives them.
 #[test]
-fn certificates_that_do_not_heed_directions() {
-    let mut random = Random::of_test("certificates_that_do_not_heed_directions");
+fn mappings_against_directions() {
+    let mut random = Random::of_test("mappings_against_directions");
     let shapes = small_shapes();
-    let (mut numbers, mut pairs) = ([[0; ITEMS + 1]; 2], 0);
-    while pairs < 20_000 {
-        // the same plant twice: undirected, and directed throughout
-        let (recorded, found) = (random.pick(&shapes).clone(), random.pick(&shapes).clone());
-        let (labels, weights) = ((2, 1 + random.below(4)), (Weights::any(&mut random), Weights::any(&mut random)));
-        let plain = plants::weighted(&recorded, &found, labels, weights, &mut random);
-        let inputs = directions::raised(&plain);
-        let plant = Plant::read(&inputs).expect("an accepted plant");
-        let sizes = compare::sizes(&inputs).expect("an accepted plant");
-        let mut written =
-            |inputs: &Inputs| compare::write(inputs, sizes.work, sizes.certificate, &mut random).expect("a written certificate");
-        let (unheeding, certificate) = (written(&plain), written(&inputs));
-        // where its mapping heeds them by chance, one that does not is a certificate too: it covers more pairs than it must
-        let legal = mapping::is_mapping(&plant, &certificate::partners(&plant, &unheeding));
-        let crossed = [compare::check(&inputs, &unheeding), compare::check(&plain, &certificate)];
-        assert_eq!(crossed[0], if legal { 0 } else { 21 }, "{inputs:?}");
-        numbers.iter_mut().zip(crossed).for_each(|(numbers, item)| numbers[item as usize] += 1);
-        for Against { partners, weight } in against(&plant) {
+    let mut tried = 0;
+    while tried < 20_000 {
+        let inputs = directed_plant(&shapes, &mut random);
+        let certificate = written(&inputs, &mut random);
+        for Against { partners, weight } in against(&Plant::read(&inputs).expect("an accepted plant")) {
             let mut bytes = certificate.clone();
             put_partners(&mut bytes, &partners);
             put(&mut bytes, 4, weight);
             assert_eq!(compare::check(&inputs, &bytes), 21, "{partners:?}{inputs:?}");
-            pairs += 1;
+            tried += 1;
         }
     }
-    assert!(numbers[0][0] > 100 && numbers[0][21] > 100 && numbers[1][0] > 100 && numbers[1][23] > 100, "{numbers:?}");
-    println!("certificates of undirected plants, and of directed ones, by number {numbers:?}; {pairs} pairs of edges against directions");
+    println!("{tried} mappings of two vertices");
+}
+
+/// The same plant twice, with all edges undirected and with all directed, and the certificate of each for the other.
+#[test]
+fn certificates_that_do_not_heed_directions() {
+    let mut random = Random::of_test("certificates_that_do_not_heed_directions");
+    let shapes = small_shapes();
+    let mut numbers = [[0; ITEMS + 1]; 2];
+    for _ in 0..1_000 {
+        let (recorded, found) = (random.pick(&shapes).clone(), random.pick(&shapes).clone());
+        let (labels, weights) = ((2, 1 + random.below(4)), (Weights::any(&mut random), Weights::any(&mut random)));
+        let plain = plants::weighted(&recorded, &found, labels, weights, &mut random);
+        let inputs = directions::raised(&plain);
+        let (unheeding, heeding) = (written(&plain, &mut random), written(&inputs, &mut random));
+        let plant = Plant::read(&inputs).expect("an accepted plant");
+        // if its mapping heeds directions by chance, the first is a certificate of both plants: it only covers more than it must
+        let heeds = mapping::is_mapping(&plant, &certificate::partners(&plant, &unheeding));
+        let given = [compare::check(&inputs, &unheeding), compare::check(&plain, &heeding)];
+        assert_eq!(given[0], if heeds { 0 } else { 21 }, "{inputs:?}");
+        numbers.iter_mut().zip(given).for_each(|(numbers, item)| numbers[item as usize] += 1);
+    }
+    let [unheeding, heeding] = numbers;
+    assert!(unheeding[0] > 100 && unheeding[21] > 100 && heeding[0] > 100 && heeding[23] > 100, "{numbers:?}");
+    println!("certificates of undirected plants and of directed ones by number {numbers:?}");
 }
 
 /// Recorded 0 > 1, found 0 < 1, worked out by hand: 0 with 0 weighs 5, 1 with 1 weighs 3, the edges would weigh 1; other pairs are forbidden.
@@ -264,7 +280,7 @@ fn a_job_under_other_directions() {
     let mut random = Random::of_test("a_job_under_other_directions");
     let shapes = small_shapes();
     let mut lighter = 0;
-    for _ in 0..4_000 {
+    for _ in 0..3_000 {
         let begun = directed_plant(&shapes, &mut random);
         let mut after = begun.clone();
         directions::turn_one(&mut after, &mut random);
