@@ -62,6 +62,28 @@ pub fn records(plant: &Plant, order: &Order) -> Vec<Record> {
     records
 }
 
+/// The bytes of a certificate for m found vertices: the weight, the partners, and the subproblem records, each its value and its duals.
+pub fn bytes(m: u8, weight: i32, partners: &[u8], records: &[(i32, &[i32])]) -> Vec<u8> {
+    let mut bytes = vec![0xC1, 0x01, partners.len() as u8, m];
+    bytes.extend(weight.to_le_bytes());
+    bytes.extend(partners.iter().flat_map(|&partner| [0xC1, 0x02, partner]));
+    for &(value, duals) in records {
+        bytes.extend([0xC1, 0x03]);
+        [&[value], duals].concat().iter().for_each(|number| bytes.extend(number.to_le_bytes()));
+    }
+    bytes
+}
+
+/// Puts a number into a certificate.
+pub fn put(certificate: &mut [u8], at: usize, number: i32) {
+    certificate[at..at + 4].copy_from_slice(&number.to_le_bytes());
+}
+
+/// Puts these partner bytes into a certificate.
+pub fn put_partners(certificate: &mut [u8], partners: &[u8]) {
+    partners.iter().enumerate().for_each(|(u, &partner)| certificate[HEAD + PARTNER * u + 2] = partner);
+}
+
 /// A certificate's n partner bytes.
 pub fn partners(plant: &Plant, certificate: &[u8]) -> Vec<u8> {
     (0..plant.n()).map(|u| certificate[HEAD + PARTNER * u + 2]).collect()

@@ -80,11 +80,14 @@ pub struct Solved {
 impl Solved {
     /// The items on inputs, then all values.
     pub fn read(inputs: &Inputs) -> Result<Solved, u32> {
-        let plant = Plant::read(inputs)?;
+        Plant::read(inputs).map(Solved::of)
+    }
+
+    pub fn of(plant: Plant) -> Solved {
         let order = Order::of(&plant);
         let values = values::all_values(&plant, &order);
         let weight = values::answer(&order, &values);
-        Ok(Solved { plant, order, values, weight })
+        Solved { plant, order, values, weight }
     }
 
     /// Item 13.
@@ -314,6 +317,19 @@ pub fn write(inputs: &Inputs, work_room: usize, certificate_room: usize, random:
             Ok(certificate.to_vec())
         }
     }
+}
+
+/// The match, a job in slices and the writing of a certificate, each lent just what it takes, must all give the same weight. Gives back that
+/// and the mapping of the match.
+pub fn heaviest(inputs: &Inputs, random: &mut Random) -> (i32, Vec<u8>) {
+    let sizes = sizes(inputs).expect("an accepted plant");
+    let room = inputs.recorded[2] as usize;
+    let mapping = match_trees(inputs, sizes.work, room, random).expect("a match");
+    let (job, work) = in_slices(inputs, sizes.work / 8 + 1, random);
+    let weight = finish(&job, inputs, &work, room, random).expect("a finish");
+    let certificate = write(inputs, sizes.work, sizes.certificate, random).expect("a written certificate");
+    assert_eq!(number_at(&certificate, 4), weight, "a job and a certificate{inputs:?}");
+    (weight, mapping)
 }
 
 /// The check: items 20 to 24.

@@ -1,8 +1,11 @@
-//! Plants to try: small ones of all shapes, large ones of several shapes, tables of weights of many kinds, trees with serials and without.
+//! Plants to try: small ones of all shapes, large ones of several shapes, tables of weights of many kinds, trees with serials and without, with
+//! directed edges and without.
 
+use crate::directions;
 use crate::random::Random;
-use crate::reading::{table_bytes, tree_bytes, Inputs, Places, FORBIDDEN, WEIGHT_MOST};
+use crate::reading::{is_directed, table_bytes, tree_bytes, Edge, Inputs, Places, DIRECTED_FROM, FORBIDDEN, WEIGHT_MOST};
 use crate::serials;
+use std::ops::Range;
 
 /// A shape: for each vertex but 0 an earlier vertex that it is joined to.
 pub type Shape = Vec<usize>;
@@ -49,16 +52,27 @@ fn form(shape: &Shape) -> String {
 pub fn tree(shape: &Shape, labels: usize, edge_labels: usize, random: &mut Random) -> Vec<u8> {
     let mut names: Vec<usize> = (0..shape.len()).collect();
     random.shuffle(&mut names);
-    let mut edges: Vec<(usize, usize, usize)> = (1..shape.len())
+    let among = labels_of_edges(edge_labels, random);
+    let mut edges: Vec<Edge> = (1..shape.len())
         .map(|vertex| {
             let (a, b) = (names[vertex], names[shape[vertex]]);
             let (a, b) = if random.once_in(2) { (a, b) } else { (b, a) };
-            (a, b, random.below(edge_labels))
+            (a, b, among.start + random.below(among.len()))
         })
         .collect();
     random.shuffle(&mut edges);
     let labels: Vec<usize> = shape.iter().map(|_| random.below(labels)).collect();
     tree_bytes(&labels, &edges)
+}
+
+/// The labels of one tree's edges, of so many that there are: those of undirected edges, those of directed ones, if there are any, or both.
+fn labels_of_edges(edge_labels: usize, random: &mut Random) -> Range<usize> {
+    let undirected = edge_labels.min(DIRECTED_FROM);
+    match random.below(5) {
+        0 => 0..undirected,
+        1 | 2 if undirected < edge_labels => undirected..edge_labels,
+        _ => 0..edge_labels,
+    }
 }
 
 /// Kinds of weights.
@@ -136,13 +150,19 @@ pub fn table(labels: usize, edge_labels: usize, vertex: Weights, edge: Weights, 
     table_bytes(&vertex.rows(labels, random), &edge.rows(edge_labels, random))
 }
 
-/// Numbers of labels: mostly few, sometimes the most.
+/// Numbers of labels of vertices and of edges: of vertices mostly few, sometimes the most.
 fn label_counts(random: &mut Random) -> (usize, usize) {
     match random.below(40) {
         0 => (32, 8),
-        1 => (1 + random.below(32), 1 + random.below(8)),
-        _ => (1 + random.below(4), 1 + random.below(3)),
+        1 => (1 + random.below(32), edge_label_count(random)),
+        _ => (1 + random.below(4), edge_label_count(random)),
     }
+}
+
+/// A number of edge labels: one time in two so few that no edge is directed.
+pub fn edge_label_count(random: &mut Random) -> usize {
+    let from = if random.once_in(2) { 0 } else { DIRECTED_FROM };
+    from + 1 + random.below(4)
 }
 
 /// A plant of two shapes, all else at random; both trees have serials, or one of them, or none.
@@ -169,7 +189,7 @@ pub fn small_plant(shapes: &[Shape], random: &mut Random) -> Inputs {
     plant(recorded, found, random)
 }
 
-/// A plant of the same trees, but weights, labels or serials anew; so its certificates are as long.
+/// A plant of the same trees, but weights, labels, serials or the first ends of edges anew; so its certificates are as long.
 pub fn relabelled(of: &Inputs, random: &mut Random) -> Inputs {
     let (labels, edge_labels) = (of.table[2] as usize, of.table[3] as usize);
     let again = |bytes: &[u8], random: &mut Random| {
@@ -197,7 +217,29 @@ pub fn relabelled(of: &Inputs, random: &mut Random) -> Inputs {
     if random.once_in(2) {
         serials::give(&mut other, random);
     }
+    if random.once_in(2) {
+        other.recorded = directions::turned(&other.recorded, |_, _| random.once_in(4));
+        other.found = directions::turned(&other.found, |_, _| random.once_in(4));
+    }
     other
+}
+
+/// The same tree with its vertices renumbered: their records reordered to suit, those of the edges in any order, and an undirected edge with
+/// either end first.
+pub fn renumbered(tree: &[u8], random: &mut Random) -> Vec<u8> {
+    let places = Places::of(tree).expect("an accepted tree");
+    let mut numbers: Vec<u8> = (0..tree[2]).collect();
+    random.shuffle(&mut numbers);
+    let (head, records) = tree[..places.edge(0)].split_at(places.vertex(0));
+    let mut vertices: Vec<(u8, &[u8])> = numbers.iter().copied().zip(records.chunks(places.kind.record())).collect();
+    vertices.sort_unstable();
+    let number = |old: u8| numbers[old as usize];
+    let mut edges: Vec<[u8; 5]> =
+        tree[places.edge(0)..].chunks(5).map(|edge| [edge[0], edge[1], number(edge[2]), number(edge[3]), edge[4]]).collect();
+    random.shuffle(&mut edges);
+    let vertices: Vec<&[u8]> = vertices.into_iter().map(|(_, record)| record).collect();
+    let bytes = [head, &vertices.concat(), &edges.concat()].concat();
+    directions::turned(&bytes, |_, label| !is_directed(label) && random.once_in(2))
 }
 
 /// A shape of so many vertices at random, no vertex of degree above 8: from long ones to ones of few hubs.

@@ -12,6 +12,14 @@ pub const VERTICES_MOST: usize = 64;
 /// The serial of a vertex whose serial is not known, by paper 02, [3].
 pub const UNKNOWN: u32 = 0;
 
+/// An edge with this label or a higher one is directed, by paper 02, [6]: from the end that is written first, the upstream one, to the other.
+pub const DIRECTED_FROM: usize = 4;
+
+/// Whether edges with this label are directed.
+pub fn is_directed(label: usize) -> bool {
+    label >= DIRECTED_FROM
+}
+
 /// The items on inputs in the order in which every call tests them: 25 after 7, 26 after 12.
 pub const INPUT_ITEMS: [u32; 14] = [1, 2, 3, 4, 5, 6, 7, 25, 8, 9, 10, 11, 12, 26];
 
@@ -100,7 +108,7 @@ impl Kind {
     }
 }
 
-/// An edge: its two ends and its label.
+/// An edge: its two ends as they are written, and its label.
 pub type Edge = (usize, usize, usize);
 
 /// Where the records of a tree stand.
@@ -135,14 +143,22 @@ impl Places {
     }
 }
 
+/// The edge between two vertices.
+#[derive(Clone, Copy, Debug, PartialEq, Eq)]
+pub struct Joined {
+    pub label: usize,
+    /// The end that is upstream; none if the edge is undirected.
+    pub upstream: Option<usize>,
+}
+
 #[derive(Clone)]
 pub struct Tree {
     pub kind: Kind,
     pub labels: Vec<usize>,
     /// For each vertex its serial; all are unknown in a tree without serials.
     pub serials: Vec<u32>,
-    /// For each two vertices the label of the edge that joins them.
-    pub joined: Vec<Vec<Option<usize>>>,
+    /// For each two vertices the edge that joins them.
+    pub joined: Vec<Vec<Option<Joined>>>,
     /// The neighbours of each vertex, ascending.
     pub neighbours: Vec<Vec<usize>>,
 }
@@ -150,6 +166,11 @@ pub struct Tree {
 impl Tree {
     pub fn vertices(&self) -> usize {
         self.labels.len()
+    }
+
+    /// The edge between two vertices that are joined.
+    pub fn edge(&self, a: usize, b: usize) -> Joined {
+        self.joined[a][b].expect("two vertices that are joined")
     }
 }
 
@@ -200,9 +221,23 @@ impl Plant {
         a != UNKNOWN && b != UNKNOWN && a != b
     }
 
-    /// The weight of the recorded edge between u and x with the found edge between v and y; both edges are there.
+    /// The weight of the recorded edge between u and x with the found edge between v and y, where u is paired with v and x with y; both edges
+    /// are there. It is forbidden if their directions differ, else as the table says.
     pub fn edge_pair(&self, u: usize, x: usize, v: usize, y: usize) -> Weight {
-        self.table.edge[self.recorded.joined[u][x].unwrap()][self.found.joined[v][y].unwrap()]
+        if self.directions_differ(u, x, v, y) {
+            None
+        } else {
+            self.table.edge[self.recorded.edge(u, x).label][self.found.edge(v, y).label]
+        }
+    }
+
+    /// Whether of two such edges only one is directed, or both are and an upstream end is paired with a downstream one.
+    pub fn directions_differ(&self, u: usize, x: usize, v: usize, y: usize) -> bool {
+        match (self.recorded.edge(u, x).upstream, self.found.edge(v, y).upstream) {
+            (None, None) => false,
+            (Some(recorded), Some(found)) => (recorded == u) != (found == v),
+            _ => true,
+        }
     }
 }
 
@@ -261,8 +296,9 @@ fn read_tree(bytes: &[u8], table: &Table, first: u32, twice: u32) -> Result<Tree
     // degrees
     let mut joined = vec![vec![None; n]; n];
     for &(a, b, label) in &edges {
-        joined[a][b] = Some(label);
-        joined[b][a] = Some(label);
+        let edge = Joined { label, upstream: is_directed(label).then_some(a) };
+        joined[a][b] = Some(edge);
+        joined[b][a] = Some(edge);
     }
     let neighbours: Vec<Vec<usize>> = (0..n).map(|a| (0..n).filter(|&b| joined[a][b].is_some()).collect()).collect();
     if neighbours.iter().any(|of| of.len() > 8) {
@@ -325,7 +361,7 @@ pub fn table_bytes(vertex: &[Vec<i32>], edge: &[Vec<i32>]) -> Vec<u8> {
     bytes
 }
 
-/// The bytes of a tree without serials: vertex labels; edges, each with its two ends and its label.
+/// The bytes of a tree without serials: vertex labels; edges, each with its two ends, the upstream one first, and its label.
 pub fn tree_bytes(labels: &[usize], edges: &[Edge]) -> Vec<u8> {
     let mut bytes = vec![0xB1, 0x01, labels.len() as u8];
     for &label in labels {

@@ -1,6 +1,6 @@
 //! Certificates: each written one is accepted by the check and by the independent check; of damaged and forged ones both give the same number.
 
-use pensummer_tests::certificate::{self, Record, HEAD, PARTNER};
+use pensummer_tests::certificate::{self, put, put_partners, Record, HEAD, PARTNER};
 use pensummer_tests::compare;
 use pensummer_tests::mapping::{self, NONE};
 use pensummer_tests::plants::{self, large_shapes, small_shapes, Shape, Weights};
@@ -82,10 +82,6 @@ impl Tally {
             assert!(self.by_number[number] > 0, "{}: {number} came up", self.name);
         }
     }
-}
-
-fn put(bytes: &mut [u8], at: usize, number: i32) {
-    bytes[at..at + 4].copy_from_slice(&number.to_le_bytes());
 }
 
 #[test]
@@ -296,9 +292,7 @@ fn forge(written: &Written, random: &mut Random) -> Vec<u8> {
                 2 => partners[random.below(n)] = NONE,
                 _ => partners[random.below(n)] = random.below(written.plant.m()) as u8,
             }
-            for (u, &partner) in partners.iter().enumerate() {
-                bytes[HEAD + PARTNER * u + 2] = partner;
-            }
+            put_partners(&mut bytes, &partners);
             if mapping::is_mapping(&written.plant, &partners) {
                 put(&mut bytes, 4, mapping::weight(&written.plant, &partners) as i32);
             }

@@ -227,7 +227,7 @@ fn several_faults_at_once() {
     let right = plants::small_plant(&small_shapes(), &mut random);
     let base = Lending::right(&right, &mut random);
     while tally.inputs < 40_000 {
-        let (labels, edge_labels) = (1 + random.below(3), 1 + random.below(3));
+        let (labels, edge_labels) = (1 + random.below(3), plants::edge_label_count(&mut random));
         let table = faulty_table(labels, edge_labels, &mut random);
         let inputs =
             Inputs { table, recorded: faulty_tree(labels, edge_labels, &mut random), found: faulty_tree(labels, edge_labels, &mut random) };

@@ -1,12 +1,14 @@
 //! Plants of 64 by 64 vertices of several shapes, against the independent dynamic program; the longest certificate is among those written.
 
 use pensummer::{Job, TREE_MOST, VERTICES_MOST};
+use pensummer_tests::answers::weight;
 use pensummer_tests::certificate;
 use pensummer_tests::compare::{self, Solved};
+use pensummer_tests::directions;
 use pensummer_tests::mapping::NONE;
 use pensummer_tests::plants::{self, large_shapes, Shape, Weights, WEIGHTS};
 use pensummer_tests::random::Random;
-use pensummer_tests::reading::{number_at, Inputs, ITEMS, UNKNOWN, WEIGHT_MOST};
+use pensummer_tests::reading::{Inputs, Places, Plant, Tree, ITEMS, UNKNOWN, WEIGHT_MOST};
 use pensummer_tests::serials;
 use pensummer_tests::values::VALUE_MOST;
 
@@ -24,7 +26,7 @@ fn large_mixed(recorded: &Shape, found: &Shape, vertex: Weights, edge: Weights, 
 
 /// The same without serials.
 fn large(recorded: &Shape, found: &Shape, vertex: Weights, edge: Weights, random: &mut Random) -> Inputs {
-    let labels = *random.pick(&[(1, 1), (3, 2), (32, 8)]);
+    let labels = *random.pick(&[(1, 1), (3, 2), (2, 5), (32, 8)]);
     plants::weighted(recorded, found, labels, (vertex, edge), random)
 }
 
@@ -93,7 +95,11 @@ fn every_kind_of_weights() {
     // ties, all forbidden, the most and the least weights are among them
     for weights in WEIGHTS {
         for (name, shape) in &shapes {
-            let inputs = large(shape, shape, weights, weights, &mut random);
+            let mut inputs = large(shape, shape, weights, weights, &mut random);
+            if matches!(weights, Weights::Most | Weights::One) {
+                // found again with other numbers, so that directions allow what is asserted
+                inputs.found = plants::renumbered(&inputs.recorded, &mut random);
+            }
             compare::match_trees(&inputs, wanted(&inputs), 64, &mut random).expect("a match");
             tried += 1;
             let weight = Solved::read(&inputs).unwrap().weight;
@@ -125,15 +131,8 @@ fn the_greatest_and_the_least_weights() {
     for (name, shape) in &shapes {
         // everything is mapped, or nothing
         for (weights, heaviest, mapped) in [(Weights::Most, 2_032_000_000, 64), (Weights::Least, 0, 0)] {
-            let inputs = with_itself(shape, weights, &mut random);
-            let mapping = compare::match_trees(&inputs, wanted(&inputs), 64, &mut random).expect("a match");
+            let mapping = all_give(&with_itself(shape, weights, &mut random), heaviest, &mut random);
             assert_eq!(mapping.iter().filter(|&&partner| partner != NONE).count(), mapped, "{name}");
-            let (job, work) = compare::in_slices(&inputs, 1_500, &mut random);
-            assert_eq!(compare::finish(&job, &inputs, &work, 64, &mut random), Ok(heaviest), "{name}");
-            // compare::write has both checks accept it
-            let length = compare::sizes(&inputs).expect("an accepted plant").certificate;
-            let written = compare::write(&inputs, work.len(), length, &mut random).expect("a written certificate");
-            assert_eq!(number_at(&written, 4), heaviest, "{name}");
         }
     }
     println!("{} trees", shapes.len());
@@ -154,22 +153,18 @@ fn the_lightest_mapping() {
     // such a mapping with its weight is only not heaviest, and with another weight it is refused for that
     let sizes = compare::sizes(&inputs).expect("an accepted plant");
     let mut bytes = compare::write(&inputs, sizes.work, sizes.certificate, &mut random).expect("a written certificate");
-    (0..64).for_each(|u| bytes[certificate::HEAD + certificate::PARTNER * u + 2] = u as u8);
+    certificate::put_partners(&mut bytes, &(0..64).collect::<Vec<u8>>());
     for (weight, item) in [(-2_032_000_000, 24), (-2_031_999_999, 22), (-2_032_000_001, 22), (i32::MIN, 22), (2_032_000_000, 22)] {
-        bytes[4..8].copy_from_slice(&i32::to_le_bytes(weight));
+        certificate::put(&mut bytes, 4, weight);
         assert_eq!(compare::check(&inputs, &bytes), item, "{weight}");
     }
 }
 
 /// The match, a job and a certificate of a plant all give this weight. Gives back the mapping of the match.
 fn all_give(inputs: &Inputs, heaviest: i32, random: &mut Random) -> Vec<u8> {
-    let sizes = compare::sizes(inputs).expect("an accepted plant");
-    let (job, work) = compare::in_slices(inputs, sizes.work / 8, random);
-    assert_eq!(compare::finish(&job, inputs, &work, VERTICES_MOST, random), Ok(heaviest));
-    // compare::write has both checks accept it
-    let written = compare::write(inputs, sizes.work, sizes.certificate, random).expect("a written certificate");
-    assert_eq!(number_at(&written, 4), heaviest);
-    compare::match_trees(inputs, sizes.work, VERTICES_MOST, random).expect("a match")
+    let (weight, mapping) = compare::heaviest(inputs, random);
+    assert_eq!(weight, heaviest, "{inputs:?}");
+    mapping
 }
 
 #[test]
@@ -200,6 +195,38 @@ fn serials_all_known() {
         let mapping = all_give(&plain, VALUE_MOST, &mut random);
         assert_eq!(all_give(&under(&unknown, &unknown), VALUE_MOST, &mut random), mapping);
     }
+}
+
+/// How many vertices there are on this side of an edge: on that of `a`.
+fn on_side_of(tree: &Tree, a: usize, b: usize) -> usize {
+    1 + tree.neighbours[a].iter().filter(|&&c| c != b).map(|&c| on_side_of(tree, c, a)).sum::<usize>()
+}
+
+/// All edges are directed, and by its serial each vertex can only be paired with itself.
+#[test]
+fn each_edge_turned() {
+    let mut random = Random::of_test("each_edge_turned");
+    let mut tried = 0;
+    for (name, shape) in &large_shapes(&mut random) {
+        let plain = plants::weighted(shape, shape, (2, 4), (Weights::Most, Weights::Most), &mut random);
+        let recorded = serials::numbered(&plain.recorded, &serials::known(VERTICES_MOST, &mut random));
+        let inputs = directions::raised(&Inputs { found: recorded.clone(), recorded, ..plain });
+        assert_eq!(weight(&inputs), VALUE_MOST, "{name}");
+        let tree = Plant::read(&inputs).expect("an accepted plant").recorded;
+        for edge in 0..VERTICES_MOST - 1 {
+            let turned = directions::turned(&inputs.recorded, |other, _| other == edge);
+            // the larger side of the edge is mapped: its vertices, and one edge fewer
+            let at = Places::of(&turned).expect("an accepted tree").edge(edge);
+            let side = on_side_of(&tree, turned[at + 2].into(), turned[at + 3].into());
+            let heaviest = WEIGHT_MOST * (2 * side.max(VERTICES_MOST - side) as i32 - 1);
+            assert_eq!(weight(&Inputs { recorded: turned.clone(), ..inputs.clone() }), heaviest, "{name}: recorded edge {edge}");
+            assert_eq!(weight(&Inputs { found: turned.clone(), ..inputs.clone() }), heaviest, "{name}: found edge {edge}");
+            // turned in both trees it is the same edge again
+            assert_eq!(weight(&Inputs { recorded: turned.clone(), found: turned, ..inputs.clone() }), VALUE_MOST, "{name}: edge {edge}");
+            tried += 1;
+        }
+    }
+    println!("{tried} edges");
 }
 
 #[test]

@@ -1,6 +1,7 @@
 //! The match in one call on random small plants of all shapes, against the exhaustive search and the independent dynamic program.
 
 use pensummer_tests::compare::{self, Solved};
+use pensummer_tests::directions::Decided;
 use pensummer_tests::mapping::{self, NONE};
 use pensummer_tests::plants::{self, small_shapes};
 use pensummer_tests::random::Random;
@@ -49,7 +50,8 @@ impl Serials {
 fn heaviest_by_exhaustive_search() {
     let mut random = Random::of_test("heaviest_by_exhaustive_search");
     let shapes = small_shapes();
-    let (mut tried, mut mappings, mut positive, mut serials) = (0, 0, 0, Serials::default());
+    let (mut tried, mut mappings, mut positive) = (0, 0, 0);
+    let (mut serials, mut directions) = (Serials::default(), Decided::default());
     for _ in 0..ROUNDS {
         for recorded in &shapes {
             for found in &shapes {
@@ -62,6 +64,7 @@ fn heaviest_by_exhaustive_search() {
                 let mapping = compare::match_trees(&inputs, numbers, bytes, &mut random).expect("a match");
                 assert_eq!(mapping::weight(&plant, &mapping), heaviest, "the heaviest of {count} mappings{inputs:?}");
                 serials.add(&inputs, &plant, &mapping, heaviest);
+                directions.add(&inputs, &plant, heaviest);
                 tried += 1;
                 mappings += count;
                 positive += usize::from(heaviest > 0);
@@ -70,6 +73,7 @@ fn heaviest_by_exhaustive_search() {
     }
     assert!(tried >= 20_000 && positive > tried / 2, "{positive} of {tried} plants have a mapping above 0");
     serials.report(tried);
+    directions.report(tried);
     println!("{tried} plants, {mappings} mappings searched, {positive} plants with a weight above 0");
 }
 

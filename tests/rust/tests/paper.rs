@@ -4,7 +4,7 @@ use pensummer::Refusal;
 use pensummer_tests::compare;
 use pensummer_tests::mapping::NONE;
 use pensummer_tests::random::Random;
-use pensummer_tests::reading::{number_at, table_bytes, tree_bytes, Inputs, Places, FORBIDDEN, UNKNOWN};
+use pensummer_tests::reading::{table_bytes, tree_bytes, Inputs, Places, FORBIDDEN, UNKNOWN};
 use pensummer_tests::serials;
 
 /// Table P; the edge weight is 1 or forbidden.
@@ -39,7 +39,7 @@ fn longer(inputs: &Inputs) -> [Inputs; 3] {
     ]
 }
 
-/// The weight and the mapping, with buffers just large enough; the same in the longer form.
+/// The weight and the mapping; the same in the longer form.
 fn found_with(inputs: &Inputs, random: &mut Random) -> (i32, Vec<u8>) {
     let answer = given(inputs, random);
     for other in longer(inputs) {
@@ -48,19 +48,11 @@ fn found_with(inputs: &Inputs, random: &mut Random) -> (i32, Vec<u8>) {
     answer
 }
 
-/// The weight and the mapping, with buffers just large enough. A job in slices and a certificate give the same weight.
+/// The weight and the mapping, the same twice.
 fn given(inputs: &Inputs, random: &mut Random) -> (i32, Vec<u8>) {
-    let sizes = compare::sizes(inputs).expect("an accepted plant");
-    let (numbers, bytes) = (sizes.work, inputs.recorded[2] as usize);
-    let (mut work, mut mapping) = (vec![0x55; numbers], vec![0x55; bytes]);
-    let weight = pensummer::match_trees(inputs.lent(), &mut work, &mut mapping);
-    let weight = weight.unwrap_or_else(|refusal| panic!("{refusal}{inputs:?}"));
-    assert_eq!(compare::match_trees(inputs, numbers, bytes, random), Ok(mapping.clone()), "the same call twice{inputs:?}");
-    let (job, work) = compare::in_slices(inputs, 3, random);
-    assert_eq!(compare::finish(&job, inputs, &work, bytes, random), Ok(weight), "a job{inputs:?}");
-    let certificate = compare::write(inputs, numbers, sizes.certificate, random).expect("a written certificate");
-    assert_eq!(number_at(&certificate, 4), weight, "a certificate{inputs:?}");
-    (weight, mapping)
+    let answer = compare::heaviest(inputs, random);
+    assert_eq!(compare::heaviest(inputs, random), answer, "the same calls twice{inputs:?}");
+    answer
 }
 
 fn refused(inputs: &Inputs) -> u32 {

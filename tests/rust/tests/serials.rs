@@ -1,45 +1,15 @@
 //! Serials: which pairs they forbid, what they leave as it is, and certificates and jobs that do not heed them. The random plants of the other
 //! tests have serials too.
 
-use pensummer::{Job, Refusal, Sizes};
-use pensummer_tests::certificate::{self, Record, HEAD, PARTNER};
+use pensummer::{Job, Refusal};
+use pensummer_tests::answers::Answers;
+use pensummer_tests::certificate::{self, put, put_partners, Record};
 use pensummer_tests::compare::{self, Solved};
 use pensummer_tests::mapping::NONE;
 use pensummer_tests::plants::{self, small_shapes};
 use pensummer_tests::random::Random;
 use pensummer_tests::reading::{table_bytes, tree_bytes, Inputs, Places, FORBIDDEN, ITEMS, UNKNOWN};
 use pensummer_tests::serials::{self, numbered, EXTREME};
-
-/// All that the calls give and leave behind for a plant.
-#[derive(Debug, PartialEq, Eq)]
-struct Answers {
-    sizes: Sizes,
-    weight: i32,
-    mapping: Vec<u8>,
-    values: Vec<i32>,
-    certificate: Vec<u8>,
-    /// A job's counts, its record at the end, its work numbers, its weight and mapping.
-    job: (Vec<u32>, Job, Vec<i32>, i32, Vec<u8>),
-}
-
-/// The answers of all calls, the advances of the job with this budget; or a refusal.
-fn answers(inputs: &Inputs, budget: u32) -> Result<Answers, Refusal> {
-    let i = inputs.lent();
-    let sizes = pensummer::sizes(i)?;
-    let (mut values, mut mapping) = (vec![7; sizes.work], vec![7; inputs.recorded[2].into()]);
-    let weight = pensummer::match_trees(i, &mut values, &mut mapping)?;
-    let (mut written, mut certificate) = (vec![7; sizes.work], vec![7; sizes.certificate]);
-    pensummer::write_certificate(i, &mut written, &mut certificate)?;
-    pensummer::check_certificate(i, &certificate)?;
-    assert_eq!(written, values, "work numbers of a writing{inputs:?}");
-    let (mut job, mut counts, mut work, mut partners) = (Job::fresh(), Vec::new(), vec![7; sizes.work], vec![7; mapping.len()]);
-    job.start(i, &work)?;
-    while job.position < sizes.subproblems {
-        counts.push(job.advance(i, budget, &mut work)?);
-    }
-    let finished = job.finish(i, &work, &mut partners)?;
-    Ok(Answers { sizes, weight, mapping, values, certificate, job: (counts, job, work, finished, partners) })
-}
 
 /// How often there were answers, and how often each refusal.
 fn count(numbers: &mut [usize; ITEMS + 1], given: &Result<Answers, Refusal>) {
@@ -97,7 +67,7 @@ fn unknown_ones_change_nothing() {
     for _ in 0..3_000 {
         let plain = plain_plant(&shapes, &mut random);
         let budget = 1 + random.below(20) as u32;
-        let without = answers(&plain, budget);
+        let without = Answers::of(&plain, budget);
         count(&mut numbers, &without);
         let mut forms = |tree: &[u8]| {
             let n = tree[2].into();
@@ -106,7 +76,7 @@ fn unknown_ones_change_nothing() {
         let (recorded, found) = (forms(&plain.recorded), forms(&plain.found));
         for (a, b) in [(0, 1), (1, 0), (1, 1), (0, 2), (1, 2), (2, 0), (2, 1)] {
             let inputs = Inputs { table: plain.table.clone(), recorded: recorded[a].clone(), found: found[b].clone() };
-            assert_eq!(answers(&inputs, budget), without, "{inputs:?}");
+            assert_eq!(Answers::of(&inputs, budget), without, "{inputs:?}");
         }
     }
     assert!([0, 4, 5, 6, 9, 10, 11].iter().all(|&item| numbers[item] > 0), "{numbers:?}");
@@ -138,16 +108,12 @@ fn other_numbers_change_nothing() {
         };
         let (recorded, found) = (renumbered(&inputs.recorded), renumbered(&inputs.found));
         let budget = 1 + random.below(20) as u32;
-        let as_given = answers(&inputs, budget);
+        let as_given = Answers::of(&inputs, budget);
         count(&mut numbers, &as_given);
-        assert_eq!(answers(&Inputs { recorded, found, ..inputs.clone() }, budget), as_given, "{inputs:?}");
+        assert_eq!(Answers::of(&Inputs { recorded, found, ..inputs.clone() }, budget), as_given, "{inputs:?}");
     }
     assert!([0, 25, 26].iter().all(|&item| numbers[item] > 0), "{numbers:?}");
     println!("plants by number {numbers:?}");
-}
-
-fn put(bytes: &mut [u8], at: usize, number: i32) {
-    bytes[at..at + 4].copy_from_slice(&number.to_le_bytes());
 }
 
 /// A plant with serials, its certificate, that without serials, and the records of the pairs that serials alone forbid.
@@ -219,8 +185,10 @@ fn certificates_that_do_not_heed_serials() {
                 assert_eq!(plant.changed(|bytes| put(bytes, at, 1)), 23, "{of:?}{:?}", plant.inputs);
             }
             // the pair alone, with the table's weight
+            let mut partners = vec![NONE; plant.solved.plant.n()];
+            partners[of.u] = of.v as u8;
             let alone = plant.changed(|bytes| {
-                (0..plant.solved.plant.n()).for_each(|u| bytes[HEAD + PARTNER * u + 2] = if u == of.u { of.v as u8 } else { NONE });
+                put_partners(bytes, &partners);
                 put(bytes, 4, *weight);
             });
             assert_eq!(alone, 21, "{of:?}{:?}", plant.inputs);
@@ -229,16 +197,6 @@ fn certificates_that_do_not_heed_serials() {
     }
     assert!(same > 0 && mapped > 0);
     println!("{records} records of pairs forbidden by serials; {mapped} mappings of such pairs; {same} plants without");
-}
-
-/// A certificate of two trees of two vertices: the weight, the partners and the subproblem records, each its value and its duals.
-fn sheet(weight: u8, [first, second]: [u8; 2], records: &[(i32, &[i32])]) -> Vec<u8> {
-    let mut bytes = vec![0xC1, 1, 2, 2, weight, 0, 0, 0, 0xC1, 2, first, 0xC1, 2, second];
-    for &(value, duals) in records {
-        bytes.extend([0xC1, 0x03]);
-        [&[value], duals].concat().iter().for_each(|number| bytes.extend(number.to_le_bytes()));
-    }
-    bytes
 }
 
 /// Plant 3 of paper 01 with recorded serials 7, 8 and found serials 9, 7, worked out by hand: only recorded 0 with found 1 is allowed.
@@ -250,14 +208,15 @@ fn a_certificate_by_hand() {
         found: tree_bytes(&[1, 0], &[(0, 1, 0)]),
     };
     let inputs = Inputs { recorded: numbered(&plain.recorded, &[7, 8]), found: numbered(&plain.found, &[9, 7]), ..plain.clone() };
-    let check = |weight: u8, partners: [u8; 2], records: &[(i32, &[i32])]| compare::check(&inputs, &sheet(weight, partners, records));
+    let bytes = |weight: i32, partners: [u8; 2], records: &[(i32, &[i32])]| certificate::bytes(2, weight, &partners, records);
+    let check = |weight: i32, partners: [u8; 2], records: &[(i32, &[i32])]| compare::check(&inputs, &bytes(weight, partners, records));
     let no = FORBIDDEN;
     // recorded 1 below 0: with found 0, s = 0 and 1, then with found 1, s = 1 and 0; then recorded 0 in the same way
     let right: [(i32, &[i32]); 8] = [(no, &[0]), (no, &[]), (no, &[0]), (no, &[]), (no, &[0, 0]), (no, &[0]), (5, &[0, 0]), (5, &[0])];
     assert_eq!(check(5, [1, NONE], &right), 0);
     // no other one has these values
     let mut random = Random::of_test("a_certificate_by_hand");
-    assert_eq!(compare::write(&inputs, 8, 94, &mut random), Ok(sheet(5, [1, NONE], &right)));
+    assert_eq!(compare::write(&inputs, 8, 94, &mut random), Ok(bytes(5, [1, NONE], &right)));
     // recorded 1 with found 0 weighs 3, as without serials, and then the pair above it 9
     let unheeding: [(i32, &[i32]); 8] = [(no, &[0]), (3, &[]), (no, &[0]), (no, &[]), (no, &[0, 0]), (no, &[0]), (9, &[4, 0]), (5, &[0])];
     assert_eq!(check(9, [1, 0], &unheeding), 21);
@@ -276,7 +235,7 @@ fn a_certificate_by_hand() {
     assert_eq!([with(0, (no, &[1])), with(4, (no, &[0, 1])), with(5, (no, &[1]))], [23; 3]);
     assert_eq!([with(1, (3, &[])), with(2, (-2, &[0])), with(4, (-2, &[0, 0]))], [23; 3]);
     // without serials it is no certificate, and that without serials is none here
-    assert_eq!(compare::check(&plain, &sheet(5, [1, NONE], &right)), 23);
+    assert_eq!(compare::check(&plain, &bytes(5, [1, NONE], &right)), 23);
     let without = compare::write(&plain, 8, 94, &mut random).expect("a written certificate");
     assert_eq!(compare::check(&inputs, &without), 21);
 }
