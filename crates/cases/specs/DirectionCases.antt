@@ -1,5 +1,5 @@
--- Plants with directed edges, the flow lines of paper 02, [6]: lines that run the same way and against each other, lines without a direction, labels 3
--- and 4 to 7, certificates, and items, which know no direction. An edge is written with its upstream end first, as 0>1. Assumes nothing.
+-- Plants with directed edges, the flow lines of paper 02, [6]: edges that run the same way and against each other, edges without a direction, labels 3
+-- and 4 to 7, certificates, and the items of table and trees, which know no direction. An edge is written with its upstream end first, as 0>1. Assumes nothing.
 use mathlib.Core.Path.{_≡_, refl}
 use mathlib.Core.Bool.{true, false}
 use mathlib.Core.List.{List, [], _∷_, _++_}
@@ -88,7 +88,7 @@ directionPlants =
     -- 0>1 with 1>0: labels allow only 0 with 0 and 1 with 1, so that only one vertex can be mapped, and 0 is the heavier
     ∷ flow (two 4 0 1) (two 4 1 0) (weighs (pos 5) (0 ∷ 255 ∷ []))
     ∷ flow (two 4 1 0) (two 4 0 1) (weighs (pos 5) (0 ∷ 255 ∷ []))
-    -- where the labels are the same, the line runs from the one vertex to the other in both trees: 5 + 5 + 1, one way only
+    -- both vertices of label 0: 5 + 5 + 1, in the one of the two ways that follows the direction
     ∷ flow (twoAlike 4 0 1) (twoAlike 4 0 1) (weighs (pos 11) (0 ∷ 1 ∷ []))
     ∷ flow (twoAlike 4 0 1) (twoAlike 4 1 0) (weighs (pos 11) (1 ∷ 0 ∷ []))
     -- a path of three directed edges and its mirror: from the other end it is the same, 4 * 5 + 3; vertex by vertex it runs against it
@@ -143,7 +143,7 @@ directionPlants =
     ∷ flow (two 4 0 1) (two 4 0 1) (checked (certificateTwo (pos 5) 255 (pos 5) (pos 0)) 23)
     ∷ flow (two 4 0 1) (two 3 0 1) (checked (certificateTwo (pos 5) 255 (pos 5) (pos 0)) 0)
     ∷ flow (two 4 0 1) (two 3 0 1) (checked (certificateTwo (pos 17) 1 (pos 17) (pos 12)) 21)
-    -- items know no direction: a loop of two directed edges, an end that is no vertex, a label that the table has not; nor do sizes
+    -- the items of table and trees know no direction: a loop of two directed edges, an end that is no vertex, a label that the table has not; nor do sizes
     ∷ flow (vertexBytes (0 ∷ 0 ∷ 0 ∷ []) ++ edgeBy 4 0 1 ++ edgeBy 4 1 0) (two 4 0 1) (refused 6)
     ∷ flow (two 4 0 1) (vertexBytes (0 ∷ 0 ∷ 0 ∷ []) ++ edgeBy 4 0 1 ++ edgeBy 5 1 0) (refused 11)
     ∷ flow (two 4 0 2) (two 4 0 1) (refused 5)
@@ -215,7 +215,7 @@ pub first-end : (upstream (two 4 0 1) 0 1 ≡ true) × (upstream (two 4 0 1) 1 0
 unfolding vertexBytes edgeBy two withSerials vertexSize joins edgeBefore upstream cat
 first-end = (refl, refl, refl, refl)
 
--- A pair of edges is not blind to the order of two of its four vertices, and is to that of all of them. Without directions it is blind to both
+-- Exchanging the ends of one of two directed edges forbids the pair, exchanging those of both changes nothing. Of undirected edges neither does
 pub pair-order : (edgePair tableFlow (two 4 0 1) (two 4 0 1) 0 1 0 1 ≡ some (pos 1))
     × (edgePair tableFlow (two 4 0 1) (two 4 0 1) 1 0 1 0 ≡ some (pos 1))
     × (edgePair tableFlow (two 4 0 1) (two 4 0 1) 0 1 1 0 ≡ none)

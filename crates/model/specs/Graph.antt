@@ -36,7 +36,7 @@ edgeBefore s n v w (suc k) = cond (joins (endA s n k) (endB s n k) v w) k (edgeB
 abbrev pub edgeOf : List ℕ → ℕ → ℕ → ℕ
 edgeOf s v w = edgeBefore s (count s) v w (edges s)
 
--- the label of the edge that joins v and w; where none does, that of edge 0, and nobody asks
+-- the label of the edge that joins v and w; where none does, that of edge 0, of which no use is made
 unfoldable pub edgeLabel : List ℕ → ℕ → ℕ → ℕ
 edgeLabel s v w = edgeLabelAt s (count s) (edgeOf s v w)
 
@@ -44,8 +44,8 @@ edgeLabel s v w = edgeLabelAt s (count s) (edgeOf s v w)
 unfoldable pub directed : ℕ → Bool
 directed l = leb directedFrom l
 
--- of the directed edge that joins v and w, v is upstream: "the first written end". Of an undirected edge it is that end too, which then means nothing;
--- where v and w are not joined, edge 0 is asked, as for a label
+-- of the directed edge that joins v and w, v is upstream: "the first written end". Of an undirected edge it says too whether v is written first, and no use
+-- is made of it; where v and w are not joined, edge 0 is asked, as for a label
 unfoldable pub upstream : List ℕ → ℕ → ℕ → Bool
 upstream s v w = eqb (endA s (count s) (edgeOf s v w)) v
 

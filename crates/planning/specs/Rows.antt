@@ -1,4 +1,4 @@
--- How the plan's rows come about: what was read of either tree, a vertex's four rows stored, and its own row with edge and serial. Assumes nothing.
+-- How the plan's rows come about: what was read of either tree, a vertex's four rows stored, and its own row with label and serial. Assumes nothing.
 use mathlib.Core.Path.{_≡_, refl, _∙_}
 use mathlib.Core.Logic.{inl, ⊎-elim, _≢_}
 use mathlib.Core.List.{List, []}

@@ -1,9 +1,9 @@
 -- What directions mean for pairs of edges and for mappings, in the words of paper 02, [6]: its flow lines are directed edges. Assumes nothing.
 use mathlib.Core.Path.{_≡_, refl, sym, _∙_}
-use mathlib.Core.Logic.{⊎-elim, _≢_}
+use mathlib.Core.Logic.{_≢_}
 use mathlib.Core.Bool.{Bool, true, false, not, _&&_, _||_, cond, true≢false}
 use mathlib.Core.List.{List}
-use Prim.Native.Nat.{ℕ, _≤_, _<_}
+use Prim.Native.Nat.{ℕ, _≤_}
 use native.Mathlib.Omega.{arith}
 use borrow.Author.Tests.{lt-leb}
 use Rattle.model.specs.Graph.{edges, joined, edgeLabel, directed, upstream}
@@ -13,7 +13,6 @@ use Rattle.model.specs.Pairs.{sameDirection, directionsAgree, edgePair}
 use Rattle.model.specs.Table.{edgeLabels, edgeWeight}
 use Rattle.model.specs.Tree.{count}
 use Rattle.model.specs.Weights.{Weight, none}
-use Rattle.trees.specs.Accepted.{Sound}
 use Rattle.trees.specs.Directions.{one-upstream, label-known}
 use Rattle.trees.specs.Neighbours.{joined-says}
 use Rattle.formats.specs.Inputs.{Accepted, accepted-sound}

@@ -14,8 +14,8 @@ use lib.Dec.{T, eqb, leb}
 use borrow.Author.Tests.{eqb-true, eq-eqb, ne-eqb, leb-true}
 use Rattle.foundations.specs.Tests.{and-split, or-split, or-true, or-false, is-false}
 use Rattle.foundations.specs.Counting.{cnt, cnt-drop, cnt-ext, cnt-none}
-use Rattle.foundations.specs.Lists.{length-below, every-at, getD-tab, tab, places-fit}
-use Rattle.foundations.specs.Members.{mem, Distinct, mem-below, below-mem, distinct-below, getD-mem}
+use Rattle.foundations.specs.Lists.{length-below, every-at, getD-tab, places-fit}
+use Rattle.foundations.specs.Members.{mem, Distinct, mem-below, below-mem, distinct-below}
 use Rattle.model.specs.Limits.{vertexLimit, degreeLimit, noVertex}
 use Rattle.model.specs.Edges.{Joins, component}
 use Rattle.model.specs.Tree.{count, endA, endB, degree, acyclic, fewEdges}

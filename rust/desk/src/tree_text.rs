@@ -150,7 +150,7 @@ impl TreeText {
     }
 }
 
-/// What is wrong with the sign between the ends of an edge with this label. A label that is none of edges has either.
+/// What is wrong with the sign between the ends of an edge with this label. A label above all of edges may have either.
 fn wrong_sign(sign: Option<char>, label: u8) -> Option<String> {
     let (first, label) = (DIRECTED.start, usize::from(label));
     match sign {

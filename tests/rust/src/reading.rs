@@ -361,7 +361,8 @@ pub fn table_bytes(vertex: &[Vec<i32>], edge: &[Vec<i32>]) -> Vec<u8> {
     bytes
 }
 
-/// The bytes of a tree without serials: vertex labels; edges, each with its two ends, the upstream one first, and its label.
+/// The bytes of a tree without serials: vertex labels; edges, each with its two ends in the order given, of a directed one the upstream end
+/// first, and its label.
 pub fn tree_bytes(labels: &[usize], edges: &[Edge]) -> Vec<u8> {
     let mut bytes = vec![0xB1, 0x01, labels.len() as u8];
     for &label in labels {

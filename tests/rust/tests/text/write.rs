@@ -212,7 +212,7 @@ impl Writer<'_> {
         }
     }
 
-    /// The sign between the ends of an edge: that of its label, which one that is none of edges has not.
+    /// The sign between the ends of an edge, by its label; with one above 7, which no edge has, it may be either.
     fn sign(&mut self, label: usize) -> char {
         match label {
             4..=7 if !self.old => '>',
