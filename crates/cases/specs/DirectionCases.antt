@@ -1,5 +1,6 @@
 -- Plants with directed edges, the flow lines of paper 02, [6]: edges that run the same way and against each other, edges without a direction, labels 3
 -- and 4 to 7, certificates, and the items of table and trees, which know no direction. An edge is written with its upstream end first, as 0>1. Assumes nothing.
+-- (Four tables of rows: one of all would take three times the memory to compute.)
 use mathlib.Core.Path.{_≡_, refl}
 use mathlib.Core.Bool.{true, false}
 use mathlib.Core.List.{List, [], _∷_, _++_}
@@ -80,6 +81,8 @@ flow recorded found e = plant 0 tableFlow recorded found e
 abbrev eight : List ℕ → List ℕ → Expected → Row
 eight recorded found e = plant 0 tableEight recorded found e
 
+-- ---- which way edges run
+
 abbrev pub directionPlants : List Row
 directionPlants =
     -- 0>1 with itself: both vertices and the edge, 5 + 3 + 1
@@ -97,8 +100,37 @@ directionPlants =
     ∷ flow (down (0 ∷ 1 ∷ 0 ∷ 0 ∷ [])) (mirror (0 ∷ 1 ∷ 0 ∷ 0 ∷ [])) (weighs (pos 15) (2 ∷ 1 ∷ 0 ∷ 255 ∷ []))
     -- only the middle one turned: 0>1 is left, 5 + 3 + 1, or one of those of two vertices of label 1, 3 + 3 + 1
     ∷ flow (down (0 ∷ 1 ∷ 1 ∷ 1 ∷ [])) (vertexBytes (0 ∷ 1 ∷ 1 ∷ 1 ∷ []) ++ edgeBy 4 0 1 ++ edgeBy 4 2 1 ++ edgeBy 4 2 3) (weighs (pos 9) (0 ∷ 1 ∷ 255 ∷ 255 ∷ []))
+    -- 1>0>2 with 0>1>2: the edge to the root runs up and the other down, 3 * 5 + 2
+    ∷ flow (vertexBytes (0 ∷ 0 ∷ 0 ∷ []) ++ edgeBy 4 1 0 ++ edgeBy 4 0 2) (vertexBytes (0 ∷ 0 ∷ 0 ∷ []) ++ edgeBy 4 0 1 ++ edgeBy 4 1 2) (weighs (pos 17) (1 ∷ 0 ∷ 2 ∷ []))
+    -- two edges from the root, with 0>1>2: one of them, 5 + 5 + 1
+    ∷ flow (vertexBytes (0 ∷ 0 ∷ 0 ∷ []) ++ edgeBy 4 0 1 ++ edgeBy 4 0 2) (vertexBytes (0 ∷ 0 ∷ 0 ∷ []) ++ edgeBy 4 0 1 ++ edgeBy 4 1 2) (weighs (pos 11) (0 ∷ 1 ∷ 255 ∷ []))
+    -- an undirected edge, written the other way round in the found tree, beside a directed one: 5 + 3 + 5 + 2
+    ∷ flow (vertexBytes (0 ∷ 1 ∷ 0 ∷ []) ++ edgeBy 0 0 1 ++ edgeBy 4 1 2) (vertexBytes (0 ∷ 1 ∷ 0 ∷ []) ++ edgeBy 0 1 0 ++ edgeBy 4 1 2) (weighs (pos 15) (0 ∷ 1 ∷ 2 ∷ []))
+    ∷ []
+
+pub direction-plants : All directionPlants
+unfolding wordBytes weights rows tableOf vertexBytes edgeBy tableFlow two twoAlike down mirror inputItem firstOf tableSized tableMarked weightsOk rowOk weightOk isForbidden inRange vertexWeight edgeWeight weighed sized marked labelsKnown endsLow closes acyclic degree fewEdges withSerials vertexMarkOf vertexSize serial serialNew serialsDiffer component joins joinedBy neighbours edgeBefore edgeLabel parent parentIn children vertexPair apart directed upstream sameDirection directionsAgree edgePair mapped num vertexPairs edgePairs weight allowed parentMapped vertexOk edgeOk isTop mappingOk greatest best valueFrom valueTo value largest answer signed32 bits32 every below mem del sumℤ cnt cat
+direction-plants =
+    by-test refl refl refl refl
+    then by-test refl refl refl refl
+    then by-test refl refl refl refl
+    then by-test refl refl refl refl
+    then by-test refl refl refl refl
+    then by-test refl refl refl refl
+    then by-test refl refl refl refl
+    then by-test refl refl refl refl
+    then by-test refl refl refl refl
+    then by-test refl refl refl refl
+    then by-test refl refl refl refl
+    then by-test refl refl refl refl
+    then end
+
+-- ---- which edges are directed
+
+abbrev pub labelPlants : List Row
+labelPlants =
     -- a directed edge with an undirected one, in either tree and written either way: forbidden, where the table says 9
-    ∷ flow (two 4 0 1) (two 3 0 1) (weighs (pos 5) (0 ∷ 255 ∷ []))
+    flow (two 4 0 1) (two 3 0 1) (weighs (pos 5) (0 ∷ 255 ∷ []))
     ∷ flow (two 4 0 1) (two 3 1 0) (weighs (pos 5) (0 ∷ 255 ∷ []))
     ∷ flow (two 3 0 1) (two 4 0 1) (weighs (pos 5) (0 ∷ 255 ∷ []))
     ∷ flow (two 3 1 0) (two 4 0 1) (weighs (pos 5) (0 ∷ 255 ∷ []))
@@ -114,48 +146,15 @@ directionPlants =
     ∷ flow (two 2 0 1) (two 2 1 0) (weighs (pos 9) (0 ∷ 1 ∷ []))
     ∷ flow (two 1 1 0) (two 1 0 1) (weighs (pos 9) (0 ∷ 1 ∷ []))
     ∷ flow (two 0 0 1) (two 3 1 0) (weighs (pos 8) (0 ∷ 1 ∷ []))
-    -- each of labels 4 to 7 has one, also with another of them
-    ∷ eight (two 3 0 1) (two 0 1 0) (weighs (pos 9) (0 ∷ 1 ∷ []))
-    ∷ eight (two 3 0 1) (two 4 0 1) (weighs (pos 5) (0 ∷ 255 ∷ []))
-    ∷ eight (two 4 0 1) (two 4 1 0) (weighs (pos 5) (0 ∷ 255 ∷ []))
-    ∷ eight (two 5 0 1) (two 5 1 0) (weighs (pos 5) (0 ∷ 255 ∷ []))
+    -- labels 6 and 7 have one as 4 and 5 have, also with another of them
     ∷ eight (two 6 0 1) (two 6 1 0) (weighs (pos 5) (0 ∷ 255 ∷ []))
     ∷ eight (two 7 0 1) (two 7 1 0) (weighs (pos 5) (0 ∷ 255 ∷ []))
     ∷ eight (two 7 0 1) (two 4 0 1) (weighs (pos 9) (0 ∷ 1 ∷ []))
-    ∷ eight (two 7 0 1) (two 0 0 1) (weighs (pos 5) (0 ∷ 255 ∷ []))
-    -- 1>0>2 with 0>1>2: the edge to the root runs up and the other down, 3 * 5 + 2
-    ∷ flow (vertexBytes (0 ∷ 0 ∷ 0 ∷ []) ++ edgeBy 4 1 0 ++ edgeBy 4 0 2) (vertexBytes (0 ∷ 0 ∷ 0 ∷ []) ++ edgeBy 4 0 1 ++ edgeBy 4 1 2) (weighs (pos 17) (1 ∷ 0 ∷ 2 ∷ []))
-    -- two edges from the root, with 0>1>2: one of them, 5 + 5 + 1
-    ∷ flow (vertexBytes (0 ∷ 0 ∷ 0 ∷ []) ++ edgeBy 4 0 1 ++ edgeBy 4 0 2) (vertexBytes (0 ∷ 0 ∷ 0 ∷ []) ++ edgeBy 4 0 1 ++ edgeBy 4 1 2) (weighs (pos 11) (0 ∷ 1 ∷ 255 ∷ []))
-    -- an undirected edge, written the other way round in the found tree, beside a directed one: 5 + 3 + 5 + 2
-    ∷ flow (vertexBytes (0 ∷ 1 ∷ 0 ∷ []) ++ edgeBy 0 0 1 ++ edgeBy 4 1 2) (vertexBytes (0 ∷ 1 ∷ 0 ∷ []) ++ edgeBy 0 1 0 ++ edgeBy 4 1 2) (weighs (pos 15) (0 ∷ 1 ∷ 2 ∷ []))
-    -- small plants 3 to 6 of paper 01 with the ends of edges written the other way round: what they were
-    ∷ plant 3 tableP (vertexBytes (0 ∷ 1 ∷ []) ++ edge 1 0) (vertexBytes (1 ∷ 0 ∷ []) ++ edge 0 1) (weighs (pos 9) (1 ∷ 0 ∷ []))
-    ∷ plant 4 tableP (vertexBytes (0 ∷ 1 ∷ 0 ∷ []) ++ edge 1 0 ++ edge 1 2) (vertexBytes (0 ∷ 0 ∷ 0 ∷ []) ++ edge 0 1 ++ edge 2 1) (weighs (pos 10) (0 ∷ 1 ∷ 2 ∷ []))
-    ∷ plant 5 tableP (vertexBytes (0 ∷ 0 ∷ 0 ∷ 0 ∷ []) ++ edge 1 0 ++ edge 0 2 ++ edge 3 0) (vertexBytes (0 ∷ 0 ∷ 0 ∷ 0 ∷ []) ++ edge 0 1 ++ edge 2 1 ++ edge 2 3) (weighs (pos 17) (1 ∷ 0 ∷ 2 ∷ 255 ∷ []))
-    ∷ plant 6 tableP (vertexBytes (1 ∷ 0 ∷ 0 ∷ []) ++ edge 1 0 ++ edge 2 1) (vertexBytes (0 ∷ 0 ∷ []) ++ edge 1 0) (weighs (pos 11) (255 ∷ 0 ∷ 1 ∷ []))
-    -- certificates: of 0>1 with itself; with 1>0; the first for the second, which maps against the flow; its bound alone, which nothing reaches; and the
-    -- second for the first, where a dual of 0 does not cover the gain of 4. With an undirected edge: the second again, and one as the table would have it
-    ∷ flow (two 4 0 1) (two 4 0 1) (checked (certificateTwo (pos 9) 1 (pos 9) (pos 4)) 0)
-    ∷ flow (two 4 0 1) (two 4 1 0) (checked (certificateTwo (pos 5) 255 (pos 5) (pos 0)) 0)
-    ∷ flow (two 4 0 1) (two 4 1 0) (checked (certificateTwo (pos 9) 1 (pos 9) (pos 4)) 21)
-    ∷ flow (two 4 0 1) (two 4 1 0) (checked (certificateTwo (pos 5) 255 (pos 9) (pos 4)) 24)
-    ∷ flow (two 4 0 1) (two 4 0 1) (checked (certificateTwo (pos 5) 255 (pos 5) (pos 0)) 23)
-    ∷ flow (two 4 0 1) (two 3 0 1) (checked (certificateTwo (pos 5) 255 (pos 5) (pos 0)) 0)
-    ∷ flow (two 4 0 1) (two 3 0 1) (checked (certificateTwo (pos 17) 1 (pos 17) (pos 12)) 21)
-    -- the items of table and trees know no direction: a loop of two directed edges, an end that is no vertex, a label that the table has not; nor do sizes
-    ∷ flow (vertexBytes (0 ∷ 0 ∷ 0 ∷ []) ++ edgeBy 4 0 1 ++ edgeBy 4 1 0) (two 4 0 1) (refused 6)
-    ∷ flow (two 4 0 1) (vertexBytes (0 ∷ 0 ∷ 0 ∷ []) ++ edgeBy 4 0 1 ++ edgeBy 5 1 0) (refused 11)
-    ∷ flow (two 4 0 2) (two 4 0 1) (refused 5)
-    ∷ flow (two 6 0 1) (two 4 0 1) (refused 4)
-    ∷ flow (two 4 0 1) (two 8 0 1) (refused 9)
-    ∷ plant 0 tableP (two 4 0 1) (two 0 0 1) (refused 4)
-    ∷ flow (two 4 0 1) (two 4 1 0) (told (Sizes 8 8 94))
     ∷ []
 
-pub direction-plants : All directionPlants
-unfolding wordBytes weights rows tableOf vertexBytes edgeBy edge tableP tableFlow tableEight two twoAlike down mirror certificateTwo recordsOf certificateOf sizesOf inputItem firstOf tableSized tableMarked weightsOk rowOk weightOk isForbidden inRange vertexWeight edgeWeight weighed sized marked labelsKnown endsLow closes acyclic degree fewEdges withSerials vertexMarkOf vertexSize serial serialNew serialsDiffer component joins joinedBy neighbours edgeBefore edgeLabel parent parentIn children vertexPair apart directed upstream sameDirection directionsAgree edgePair mapped num vertexPairs edgePairs weight allowed parentMapped vertexOk edgeOk isTop mappingOk greatest best valueFrom valueTo value largest answer signed32 bits32 every below mem del sumℤ cnt cat checkOf shapeOk squares certificateLength recordLength recordAt mappingIn valueIn childDual otherDual valueOf eqZ atMost forbiddenOk coverOk dualsOk pairOk subproblemOk postorderFrom postorder position width subproblems offset slot index vertexAt uAt vAt sAt tab place
-direction-plants =
+pub direction-labels : All labelPlants
+unfolding wordBytes weights rows tableOf vertexBytes edgeBy tableFlow tableEight two inputItem firstOf tableSized tableMarked weightsOk rowOk weightOk isForbidden inRange vertexWeight edgeWeight weighed sized marked labelsKnown endsLow closes acyclic degree fewEdges withSerials vertexMarkOf vertexSize serial serialNew serialsDiffer component joins joinedBy neighbours edgeBefore edgeLabel parent parentIn children vertexPair apart directed upstream sameDirection directionsAgree edgePair mapped num vertexPairs edgePairs weight allowed parentMapped vertexOk edgeOk isTop mappingOk greatest best valueFrom valueTo value largest answer signed32 bits32 every below mem del sumℤ cnt cat
+direction-labels =
     by-test refl refl refl refl
     then by-test refl refl refl refl
     then by-test refl refl refl refl
@@ -173,28 +172,55 @@ direction-plants =
     then by-test refl refl refl refl
     then by-test refl refl refl refl
     then by-test refl refl refl refl
+    then end
+
+-- ---- edges without a direction
+
+abbrev pub turnedPlants : List Row
+turnedPlants =
+    -- small plants 3 to 6 of paper 01 with the ends of edges written the other way round: what they were
+    plant 3 tableP (vertexBytes (0 ∷ 1 ∷ []) ++ edge 1 0) (vertexBytes (1 ∷ 0 ∷ []) ++ edge 0 1) (weighs (pos 9) (1 ∷ 0 ∷ []))
+    ∷ plant 4 tableP (vertexBytes (0 ∷ 1 ∷ 0 ∷ []) ++ edge 1 0 ++ edge 1 2) (vertexBytes (0 ∷ 0 ∷ 0 ∷ []) ++ edge 0 1 ++ edge 2 1) (weighs (pos 10) (0 ∷ 1 ∷ 2 ∷ []))
+    ∷ plant 5 tableP (vertexBytes (0 ∷ 0 ∷ 0 ∷ 0 ∷ []) ++ edge 1 0 ++ edge 0 2 ++ edge 3 0) (vertexBytes (0 ∷ 0 ∷ 0 ∷ 0 ∷ []) ++ edge 0 1 ++ edge 2 1 ++ edge 2 3) (weighs (pos 17) (1 ∷ 0 ∷ 2 ∷ 255 ∷ []))
+    ∷ plant 6 tableP (vertexBytes (1 ∷ 0 ∷ 0 ∷ []) ++ edge 1 0 ++ edge 2 1) (vertexBytes (0 ∷ 0 ∷ []) ++ edge 1 0) (weighs (pos 11) (255 ∷ 0 ∷ 1 ∷ []))
+    ∷ []
+
+pub direction-ends : All turnedPlants
+unfolding wordBytes weights rows tableOf vertexBytes edgeBy edge tableP inputItem firstOf tableSized tableMarked weightsOk rowOk weightOk isForbidden inRange vertexWeight edgeWeight weighed sized marked labelsKnown endsLow closes acyclic degree fewEdges withSerials vertexMarkOf vertexSize serial serialNew serialsDiffer component joins joinedBy neighbours edgeBefore edgeLabel parent parentIn children vertexPair apart directed upstream sameDirection directionsAgree edgePair mapped num vertexPairs edgePairs weight allowed parentMapped vertexOk edgeOk isTop mappingOk greatest best valueFrom valueTo value largest answer signed32 bits32 every below mem del sumℤ cnt cat
+direction-ends =
+    by-test refl refl refl refl
     then by-test refl refl refl refl
     then by-test refl refl refl refl
     then by-test refl refl refl refl
-    then by-test refl refl refl refl
-    then by-test refl refl refl refl
-    then by-test refl refl refl refl
-    then by-test refl refl refl refl
-    then by-test refl refl refl refl
-    then by-test refl refl refl refl
-    then by-test refl refl refl refl
-    then by-test refl refl refl refl
-    then by-test refl refl refl refl
-    then by-test refl refl refl refl
-    then by-test refl refl refl refl
-    then by-test refl refl refl refl
-    then by-test refl refl refl refl
-    then by-test refl refl refl refl
-    then by-test refl refl refl refl
-    then by-test refl refl refl refl
-    then by-test refl refl refl refl
-    then by-test refl refl refl refl
-    then refl
+    then end
+
+-- ---- certificates, items and sizes
+
+abbrev pub certificatePlants : List Row
+certificatePlants =
+    -- certificates: of 0>1 with itself; with 1>0; the first for the second, which maps against the flow; its bound alone, which nothing reaches; and the
+    -- second for the first, where a dual of 0 does not cover the gain of 4. With an undirected edge: the second again, and one as the table would have it
+    flow (two 4 0 1) (two 4 0 1) (checked (certificateTwo (pos 9) 1 (pos 9) (pos 4)) 0)
+    ∷ flow (two 4 0 1) (two 4 1 0) (checked (certificateTwo (pos 5) 255 (pos 5) (pos 0)) 0)
+    ∷ flow (two 4 0 1) (two 4 1 0) (checked (certificateTwo (pos 9) 1 (pos 9) (pos 4)) 21)
+    ∷ flow (two 4 0 1) (two 4 1 0) (checked (certificateTwo (pos 5) 255 (pos 9) (pos 4)) 24)
+    ∷ flow (two 4 0 1) (two 4 0 1) (checked (certificateTwo (pos 5) 255 (pos 5) (pos 0)) 23)
+    ∷ flow (two 4 0 1) (two 3 0 1) (checked (certificateTwo (pos 5) 255 (pos 5) (pos 0)) 0)
+    ∷ flow (two 4 0 1) (two 3 0 1) (checked (certificateTwo (pos 17) 1 (pos 17) (pos 12)) 21)
+    -- the items of table and trees know no direction: a loop of two directed edges, an end that is no vertex, a label that the table has not; nor do sizes
+    ∷ flow (vertexBytes (0 ∷ 0 ∷ 0 ∷ []) ++ edgeBy 4 0 1 ++ edgeBy 4 1 0) (two 4 0 1) (refused 6)
+    ∷ flow (two 4 0 1) (vertexBytes (0 ∷ 0 ∷ 0 ∷ []) ++ edgeBy 4 0 1 ++ edgeBy 5 1 0) (refused 11)
+    ∷ flow (two 4 0 2) (two 4 0 1) (refused 5)
+    ∷ flow (two 6 0 1) (two 4 0 1) (refused 4)
+    ∷ flow (two 4 0 1) (two 8 0 1) (refused 9)
+    ∷ plant 0 tableP (two 4 0 1) (two 0 0 1) (refused 4)
+    ∷ flow (two 4 0 1) (two 4 1 0) (told (Sizes 8 8 94))
+    ∷ []
+
+pub direction-certificates : All certificatePlants
+unfolding wordBytes weights rows tableOf vertexBytes edgeBy tableP tableFlow two certificateTwo recordsOf certificateOf sizesOf inputItem firstOf tableSized tableMarked weightsOk rowOk weightOk isForbidden inRange vertexWeight edgeWeight weighed sized marked labelsKnown endsLow closes acyclic degree fewEdges withSerials vertexMarkOf vertexSize serial serialNew serialsDiffer component joins joinedBy neighbours edgeBefore edgeLabel parent parentIn children vertexPair apart directed upstream sameDirection directionsAgree edgePair mapped num vertexPairs edgePairs weight allowed parentMapped vertexOk edgeOk isTop mappingOk greatest best valueFrom valueTo value largest answer signed32 bits32 every below mem del sumℤ cnt cat checkOf shapeOk squares certificateLength recordLength recordAt mappingIn valueIn childDual otherDual valueOf eqZ atMost forbiddenOk coverOk dualsOk pairOk subproblemOk postorderFrom postorder position width subproblems offset slot index vertexAt uAt vAt sAt tab place
+direction-certificates =
+    refl
     then refl
     then refl
     then refl
