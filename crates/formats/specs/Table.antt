@@ -14,9 +14,13 @@ use Rattle.model.specs.Limits.{vertexLabelLimit, edgeLabelLimit}
 use Rattle.model.specs.Bytes.{int32At}
 use Rattle.model.specs.Weights.{weightOk}
 use Rattle.model.specs.Refusals.{firstOf}
-use Rattle.model.specs.Table.{vertexLabels, edgeLabels, rowLength, vertexRow, edgeRow, tableLength, column, tableSized, tableMarked, rowOk, weightsOk, tableItem}
+use Rattle.model.specs.Table.{vertexLabels, edgeLabels, vertexRow, edgeRow, tableLength, column, tableSized, tableMarked, rowOk, weightsOk, tableItem}
 
 -- ---- rows: the products, which `omega` takes as they stand
+
+-- a row of k weights, of either block
+abbrev pub rowLength : ℕ → ℕ
+rowLength k = 2 + 4 * k
 
 -- row i of k rows of length w ends before the last does
 pub row-end : (i k w : ℕ) → i < k → i * w + w ≤ k * w

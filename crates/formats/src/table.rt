@@ -5,8 +5,8 @@ ghost use Prim.Native.Nat.{_+_, _*_, _<_, _≤_, _^_};
 ghost use Rattle.foundations.specs.Lists.{every};
 ghost use Rattle.model.specs.Bytes.{isMark, int32At};
 ghost use Rattle.model.specs.Weights.{weightOk};
-ghost use Rattle.model.specs.Table.{vertexLabels, edgeLabels, rowLength, vertexRow, edgeRow, column, tableSized, tableMarked, rowOk, weightsOk, tableItem};
-ghost use Rattle.formats.specs.Table.{RowsLength, RowAt, TableSized};
+ghost use Rattle.model.specs.Table.{vertexLabels, edgeLabels, vertexRow, edgeRow, column, tableSized, tableMarked, rowOk, weightsOk, tableItem};
+ghost use Rattle.formats.specs.Table.{rowLength, RowsLength, RowAt, TableSized};
 
 // A row of k weights: its mark and 4 bytes for each.
 fn row_length(k: u8) -> usize

@@ -11,6 +11,7 @@ use Rattle.foundations.specs.Lists.{every, tab}
 use Rattle.foundations.specs.Members.{del}
 use Rattle.foundations.specs.Sums.{sumℤ}
 use Rattle.model.specs.Bytes.{byteAt, isMark, int32At}
+use Rattle.model.specs.Lengths.{headLength, partnerLength, subproblemLength}
 use Rattle.model.specs.Refusals.{Item, item, firstOf}
 use Rattle.model.specs.Weights.{Weight, none, some, weighed, isForbidden}
 use Rattle.model.specs.Tree.{count}
@@ -32,27 +33,30 @@ partnerMark = 0xC1 ∷ 0x02 ∷ []
 abbrev pub recordMark : List ℕ
 recordMark = 0xC1 ∷ 0x03 ∷ []
 
--- ---- the length: 8 + 3n + 6n(3m - 2) + 4(n - 1)(3m - 2) + 4n times the sum of squares of the found vertices' degrees
+-- ---- the length: "8 + 3n + 6n(3m - 2) + 4(n - 1)(3m - 2) + 4n times the sum of squares" of the found vertices' degrees; a record without duals has 6 bytes
 
 unfoldable pub squares : List ℕ → ℕ → ℕ
 squares f zero = 0
 squares f (suc v) = squares f v + length (neighbours f v) * length (neighbours f v)
 
 unfoldable pub certificateLength : List ℕ → List ℕ → ℕ
-certificateLength r f = 8 + 3 * count r + 6 * subproblems r f + 4 * ((count r - 1) * width f) + 4 * (count r * squares f (count f))
+certificateLength r f = headLength + partnerLength * count r + subproblemLength 0 0 * subproblems r f + 4 * ((count r - 1) * width f) + 4 * (count r * squares f (count f))
 
--- ---- where things stand: a head of 8 bytes, a partner in 3 bytes for each recorded vertex, then the record of each subproblem in order
+-- ---- where things stand: the head, a partner for each recorded vertex, then the record of each subproblem in order
+
+abbrev pub partnerAt : ℕ → ℕ
+partnerAt u = headLength + partnerLength * u
 
 -- the neighbours of v other than s
 abbrev pub others : List ℕ → ℕ → ℕ → List ℕ
 others f v s = del s (neighbours f v)
 
--- a record: mark, value, a dual for each child of u, one for each neighbour of v other than s
+-- the record of subproblem k has a dual for each child of u, one for each neighbour of v other than s
 unfoldable pub recordLength : List ℕ → List ℕ → ℕ → ℕ
-recordLength r f k = 6 + 4 * length (children r (uAt r f k)) + 4 * length (others f (vAt f k) (sAt f k))
+recordLength r f k = subproblemLength (length (children r (uAt r f k))) (length (others f (vAt f k) (sAt f k)))
 
 unfoldable pub recordAt : List ℕ → List ℕ → ℕ → ℕ
-recordAt r f zero = 8 + 3 * count r
+recordAt r f zero = partnerAt (count r)
 recordAt r f (suc k) = recordAt r f k + recordLength r f k
 
 -- "the mapping in a sheet is its n partner bytes, its weight the 4 bytes in its head"
@@ -60,7 +64,7 @@ abbrev pub weightIn : List ℕ → ℤ
 weightIn z = int32At z 4
 
 unfoldable pub mappingIn : List ℕ → List ℕ → List ℕ
-mappingIn r z = tab (λ u. byteAt z (10 + 3 * u)) (count r)
+mappingIn r z = tab (λ u. byteAt z (partnerAt u + 2)) (count r)
 
 -- of record k: the value, the dual of the i-th child, that of the j-th neighbour other than s
 unfoldable pub valueIn : List ℕ → List ℕ → List ℕ → ℕ → ℤ
@@ -93,7 +97,7 @@ shapeOk r f z =
     && (isMark z 0 headMark
     && (eqb (byteAt z 2) (count r)
     && (eqb (byteAt z 3) (count f)
-    && (every (λ u. isMark z (8 + 3 * u) partnerMark) (count r)
+    && (every (λ u. isMark z (partnerAt u) partnerMark) (count r)
     && every (λ k. isMark z (recordAt r f k) recordMark) (subproblems r f)))))
 
 -- 23: "a record of a forbidden pair has the forbidden value and bounds 0"

@@ -5,6 +5,7 @@ use Prim.Native.Nat.{ℕ}
 use lib.ListN.{length, take, drop}
 use lib.Dec.{eqb}
 use Rattle.model.specs.Bytes.{isMark}
+use Rattle.model.specs.Lengths.{treeHeadLength}
 use Rattle.model.specs.Table.{tableLength}
 use Rattle.model.specs.Tree.{count, vertexMarkOf, treeSize}
 
@@ -21,7 +22,7 @@ afterTable input = drop (tableLength input) input
 -- "The match program finds a layout's length from its head and its first device mark": it is known where the count is not 0 and the mark is of either
 -- kind. Bytes that are cut off are read as zeros, so that it is not known where the count or the mark is.
 unfoldable pub lengthKnown : List ℕ → Bool
-lengthKnown s = not (eqb (count s) 0) && isMark s 3 (vertexMarkOf s)
+lengthKnown s = not (eqb (count s) 0) && isMark s treeHeadLength (vertexMarkOf s)
 
 unfoldable pub treeLength : List ℕ → ℕ
 treeLength s = cond (lengthKnown s) (treeSize s (count s)) (length s)

@@ -2,6 +2,7 @@
 -- same in src/lib.rt as far as it uses them (`weights` and `sizes` there). A job's total has its limit in `Jobs`.
 use Prim.Native.Nat.{ℕ, _+_, _*_, _-_, _/_, _%_}
 use lib.IntN.{ℤ, negsuc}
+use Rattle.model.specs.Lengths.{headLength, partnerLength, subproblemLength}
 
 -- a weight is from -weightLimit to weightLimit, either end included, or is the forbidden number -2,147,483,648. Paper 02, [2]
 abbrev pub weightLimit : ℕ
@@ -78,4 +79,4 @@ squareLimit = hubLimit * (degreeLimit * degreeLimit) + restLimit * restLimit + (
 
 -- the longest certificate, 278,736: `certificateLength` at these (theorem `length-most`)
 abbrev pub certificateLimit : ℕ
-certificateLimit = 8 + 3 * vertexLimit + 6 * subproblemLimit + 4 * ((vertexLimit - 1) * widthLimit) + 4 * (vertexLimit * squareLimit)
+certificateLimit = headLength + partnerLength * vertexLimit + subproblemLength 0 0 * subproblemLimit + 4 * ((vertexLimit - 1) * widthLimit) + 4 * (vertexLimit * squareLimit)

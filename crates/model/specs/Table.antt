@@ -9,6 +9,7 @@ use lib.Dec.{eqb, leb}
 use Rattle.foundations.specs.Lists.{every}
 use Rattle.model.specs.Limits.{vertexLabelLimit, edgeLabelLimit}
 use Rattle.model.specs.Bytes.{byteAt, isMark, tableMark, vertexRowMark, edgeRowMark, int32At}
+use Rattle.model.specs.Lengths.{tableHeadLength, vertexRowLength, edgeRowLength}
 use Rattle.model.specs.Weights.{Weight, weighed, weightOk}
 use Rattle.model.specs.Refusals.{Item, item, firstOf}
 
@@ -19,19 +20,16 @@ vertexLabels table = byteAt table 2
 abbrev pub edgeLabels : List ℕ → ℕ
 edgeLabels table = byteAt table 3
 
--- a row of k weights: its mark and 4 bytes for each
-abbrev pub rowLength : ℕ → ℕ
-rowLength k = 2 + 4 * k
-
--- where row i starts: the head has 4 bytes, K vertex rows follow, then L edge rows
+-- where row i starts: K vertex rows follow the head, then L edge rows
 abbrev pub vertexRow : List ℕ → ℕ → ℕ
-vertexRow table i = 4 + i * rowLength (vertexLabels table)
+vertexRow table i = tableHeadLength + i * vertexRowLength (vertexLabels table)
 
 abbrev pub edgeRow : List ℕ → ℕ → ℕ
-edgeRow table i = 4 + vertexLabels table * rowLength (vertexLabels table) + i * rowLength (edgeLabels table)
+edgeRow table i = vertexRow table (vertexLabels table) + i * edgeRowLength (edgeLabels table)
 
+-- "4 + K(2 + 4K) + L(2 + 4L) bytes": where an edge row after the last would start
 abbrev pub tableLength : List ℕ → ℕ
-tableLength table = 4 + vertexLabels table * rowLength (vertexLabels table) + edgeLabels table * rowLength (edgeLabels table)
+tableLength table = edgeRow table (edgeLabels table)
 
 -- where the weight in column j of the row at place r stands
 abbrev pub column : ℕ → ℕ → ℕ

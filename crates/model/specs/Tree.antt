@@ -8,6 +8,7 @@ use lib.Dec.{eqb, ltb, leb}
 use Rattle.foundations.specs.Lists.{every}
 use Rattle.model.specs.Limits.{vertexLimit, degreeLimit}
 use Rattle.model.specs.Bytes.{byteAt, isMark, wordAt, treeMark, vertexMark, serialMark, edgeMark}
+use Rattle.model.specs.Lengths.{treeHeadLength, vertexLength, edgeLength, serialVertexLength}
 use Rattle.model.specs.Edges.{component}
 use Rattle.model.specs.Refusals.{Item, item, firstOf}
 
@@ -18,25 +19,25 @@ count s = byteAt s 2
 -- "A layout uses one kind of device record throughout": the mark of the first says which, and item 3 asks it of all. A first mark that is neither of the
 -- two counts as the shorter kind here, and item 3 refuses it.
 unfoldable pub withSerials : List ℕ → Bool
-withSerials s = isMark s 3 serialMark
+withSerials s = isMark s treeHeadLength serialMark
 
--- the mark of a vertex record, and its bytes: mark and label, or mark, label and serial
+-- the mark of a vertex record, and its length
 unfoldable pub vertexMarkOf : List ℕ → List ℕ
 vertexMarkOf s = cond (withSerials s) serialMark vertexMark
 
 unfoldable pub vertexSize : List ℕ → ℕ
-vertexSize s = cond (withSerials s) 7 3
+vertexSize s = cond (withSerials s) serialVertexLength vertexLength
 
--- Of a tree of n vertices: where the record of vertex v and of edge j start. The head has 3 bytes, an edge 5.
+-- Of a tree of n vertices: where the record of vertex v and of edge j start. The vertices follow the head, then the edges.
 abbrev pub vertexStart : List ℕ → ℕ → ℕ
-vertexStart s v = 3 + vertexSize s * v
+vertexStart s v = treeHeadLength + vertexSize s * v
 
 abbrev pub edgeStart : List ℕ → ℕ → ℕ → ℕ
-edgeStart s n j = 3 + vertexSize s * n + 5 * j
+edgeStart s n j = vertexStart s n + edgeLength * j
 
--- its length, with n - 1 edges: 8n - 2, and 12n - 2 with serials
+-- its length, with n - 1 edges: "8n - 2", and 12n - 2 with serials, for n from 1 on
 abbrev pub treeSize : List ℕ → ℕ → ℕ
-treeSize s n = (vertexSize s + 5) * n - 2
+treeSize s n = edgeStart s n (n - 1)
 
 -- the label of vertex v, and its serial, 0 where the records have none; the end of edge j that is written first, the other, and its label
 abbrev pub vertexLabel : List ℕ → ℕ → ℕ

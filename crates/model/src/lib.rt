@@ -86,6 +86,12 @@ impl JobRecord {
     }
 }
 
+// How many bytes a record has, its mark among them; or its mark is none of the ten.
+pub enum RecordLength {
+    Bytes(usize),
+    Unknown,
+}
+
 // The answer of a start.
 pub enum StartAnswer {
     Started,

@@ -5,6 +5,7 @@ use mathlib.Core.Bool.{Bool, true, false, not, _&&_, true≢false}
 use mathlib.Core.List.{List}
 use Prim.Native.Nat.{ℕ, zero, suc, _+_, _*_, _-_, _≤_, _<_}
 use native.Mathlib.Omega.{arith}
+use native.Mathlib.Nat.{mul-le-mul}
 use lib.ListN.{length}
 use lib.Dec.{eqb, ltb, leb}
 use borrow.Author.Tests.{eqb-true, eqb-false, eq-eqb, ltb-true, leb-true}
@@ -12,7 +13,8 @@ use Rattle.foundations.specs.Tests.{and-split, not-says, is-false}
 use Rattle.foundations.specs.Lists.{every, every-at, every-fails}
 use Rattle.model.specs.Limits.{edgeLabelLimit, vertexLimit}
 use Rattle.model.specs.Edges.{Closes, component}
-use Rattle.model.specs.Tree.{count, withSerials, vertexSize, treeSize, vertexLabel, endA, endB, edgeLabelAt, sized, marked, labelsKnown, endsLow, closes, acyclic, fewEdges, serialsDiffer, treeItems, treeItem}
+use Rattle.model.specs.Lengths.{vertexLength, serialVertexLength}
+use Rattle.model.specs.Tree.{count, withSerials, vertexSize, vertexStart, treeSize, vertexLabel, endA, endB, edgeLabelAt, sized, marked, labelsKnown, endsLow, closes, acyclic, fewEdges, serialsDiffer, treeItems, treeItem}
 use Rattle.trees.specs.Items.{Numbered, end, more, first-zero}
 use Rattle.trees.specs.Components.{AllFresh, component-walk, walk-component}
 
@@ -41,19 +43,39 @@ sized-says s h =
 
 -- ---- the two kinds of vertex records
 
-pub size-with : (s : List ℕ) → withSerials s ≡ true → vertexSize s ≡ 7
+pub size-with : (s : List ℕ) → withSerials s ≡ true → vertexSize s ≡ serialVertexLength
 unfolding vertexSize
 size-with s e = rw e
 
-pub size-without : (s : List ℕ) → withSerials s ≡ false → vertexSize s ≡ 3
+pub size-without : (s : List ℕ) → withSerials s ≡ false → vertexSize s ≡ vertexLength
 unfolding vertexSize
 size-without s e = rw e
 
 pub long-with : {s : List ℕ} {n : ℕ} → Whole s n → withSerials s ≡ true → length s ≡ 12 * n - 2
-long-with {s} w e = w .long ∙ rw (size-with s e)
+long-with {s} w e = let one = w .some in w .long ∙ rw (size-with s e) (omega arith)
 
 pub long-without : {s : List ℕ} {n : ℕ} → Whole s n → withSerials s ≡ false → length s ≡ 8 * n - 2
-long-without {s} w e = w .long ∙ rw (size-without s e)
+long-without {s} w e = let one = w .some in w .long ∙ rw (size-without s e) (omega arith)
+
+-- either is one of two lengths
+pub size-few : (s : List ℕ) → (vertexLength ≤ vertexSize s) × (vertexSize s ≤ serialVertexLength)
+size-few s = go (withSerials s) refl
+  where
+    go : (t : Bool) → withSerials s ≡ t → (vertexLength ≤ vertexSize s) × (vertexSize s ≤ serialVertexLength)
+    go true e = rw (size-with s e) (omega arith, omega arith)
+    go false e = rw (size-without s e) (omega arith, omega arith)
+
+pub sizes-few : (s : List ℕ) (k m : ℕ) → k ≤ m → vertexSize s * k ≤ serialVertexLength * m
+sizes-few s k m h = mul-le-mul (size-few s .1) h
+
+-- a vertex record lies inside, with its mark and label
+pub vertex-inside : {s : List ℕ} {n : ℕ} → Whole s n → (v : ℕ) → v < n → vertexStart s v + vertexLength ≤ length s
+vertex-inside {s} {n} w v h =
+    let a : vertexSize s * (v + 1) ≤ vertexSize s * n = mul-le-mul (omega arith) (omega arith) in
+    let b : vertexSize s * (v + 1) ≡ vertexSize s * v + vertexSize s = omega arith in
+    let d = size-few s .0 in
+    let e = w .long in
+    omega arith
 
 -- the first vertex record is there
 pub long-some : {s : List ℕ} {n : ℕ} → Whole s n → 6 ≤ length s

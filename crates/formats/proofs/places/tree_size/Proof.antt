@@ -1,46 +1,41 @@
 -- `tree_size` meets its contract. Assumes nothing.
-use mathlib.Core.Path.{_≡_, sym, _∙_}
-use mathlib.Core.Bool.{true, false}
-use Rattle.model.specs.Tree.{withSerials}
-use Rattle.trees.specs.Accepted.{size-with, size-without}
 use native.Mathlib.Omega.{arith}
 use borrow.Author.Needs.{needs}
+use Prim.Native.Nat.{_*_, _≤_}
+use Rattle.model.specs.Tree.{vertexSize}
+use Rattle.trees.specs.Accepted.{sizes-few}
 use Rattle.formats.proofs.places.tree_size.Statement.{statement}
 use Rattle.formats.proofs.places.tree_size.Tie as tie
 
-with-serials-requires : tie.Need-with-serials-requires
-with-serials-requires c κs = search needs
+-- the vertices' bytes, of any count in a byte
+few : (c : tie.After-vertex-size) → vertexSize (c .before .before .before .args .s .now) * c .before .before .before .args .n ≤ 7 * 255
+few c = sizes-few (c .before .before .before .args .s .now) (c .before .before .before .args .n) 255 (search needs)
 
 mul-result : tie.Need-mul-result
-mul-result c = search needs
+mul-result c = rw (c .vertex-size .ensures) (omega (arith, few c))
 
-sub-result : tie.Need-sub-result
-sub-result c = search needs
+add-result : tie.Need-add-result
+add-result c = rw (c .vertex-size .ensures, c .before .tree-head .ensures) (omega (arith, few c))
 
 mul-result-2 : tie.Need-mul-result-2
-mul-result-2 c = search needs
+mul-result-2 c = rw (c .edge .ensures) (search needs)
 
-sub-result-2 : tie.Need-sub-result-2
-sub-result-2 c = search needs
+add-result-2 : tie.Need-add-result-2
+add-result-2 c = rw (c .edge .ensures, c .before .vertex-size .ensures, c .before .before .tree-head .ensures) (omega (arith, few (c .before)))
 
 returns : tie.Need-returns
-returns c =
-    let e : withSerials (c .before .before .before .args .s .now) ≡ true = sym (c .before .with-serials .ensures) ∙ c .if1 .taken in
-    rw (size-with _ e)
-
-returns-2 : tie.Need-returns-2
-returns-2 c =
-    let e : withSerials (c .before .before .before .args .s .now) ≡ false = sym (c .before .with-serials .ensures) ∙ c .if1 .left in
-    rw (size-without _ e)
+returns c = rw (c .edge .ensures, c .before .vertex-size .ensures, c .before .before .tree-head .ensures)
 
 pub tree-size-spec : {M : Type 1} → statement M
 tree-size-spec =
     tie.close
     (tie.spec
-    with-serials-requires
+    (λ c κs. search needs)
+    (λ c κs. search needs)
     mul-result
-    sub-result
+    add-result
+    (λ c κs. search needs)
+    (λ c. search needs)
     mul-result-2
-    sub-result-2
-    returns
-    returns-2)
+    add-result-2
+    returns)

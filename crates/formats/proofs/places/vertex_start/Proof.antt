@@ -1,50 +1,29 @@
 -- `vertex_start` meets its contract. Assumes nothing.
-use mathlib.Core.Path.{_≡_, sym, _∙_}
-use mathlib.Core.Bool.{true, false}
-use Rattle.model.specs.Tree.{withSerials}
-use Rattle.trees.specs.Accepted.{size-with, size-without, long-with, long-without, long-some}
+use mathlib.Core.Path.{refl}
 use native.Mathlib.Omega.{arith}
 use borrow.Author.Needs.{needs}
+use Prim.Native.Nat.{_+_, _≤_}
+use lib.ListN.{length}
+use Rattle.model.specs.Lengths.{vertexLength}
+use Rattle.model.specs.Tree.{vertexStart}
+use Rattle.trees.specs.Accepted.{long-some, vertex-inside}
 use Rattle.formats.proofs.places.vertex_start.Statement.{statement}
 use Rattle.formats.proofs.places.vertex_start.Tie as tie
 
-with-serials-requires : tie.Need-with-serials-requires
-with-serials-requires c κs = omega (arith, long-some (c .before .pre .0))
+vertex-size-requires : tie.Need-vertex-size-requires
+vertex-size-requires c κs = omega (arith, long-some (c .before .before .pre .0))
+
+inside : (c : tie.After-vertex-size) → vertexStart (c .before .before .before .args .s .now) (c .before .before .before .args .v) + vertexLength ≤ length (c .before .before .before .args .s .now)
+inside c = vertex-inside (c .before .before .before .pre .0) (c .before .before .before .args .v) (c .before .before .before .pre .1)
 
 mul-result : tie.Need-mul-result
-mul-result c = search needs
+mul-result c = rw (c .vertex-size .ensures) (omega (arith, inside c))
 
 add-result : tie.Need-add-result
-add-result c = search needs
-
-mul-result-2 : tie.Need-mul-result-2
-mul-result-2 c = search needs
-
-add-result-2 : tie.Need-add-result-2
-add-result-2 c = search needs
+add-result c = rw (c .vertex-size .ensures, c .before .tree-head .ensures) (omega (arith, inside c))
 
 returns : tie.Need-returns
-returns c =
-    let w = c .before .before .before .pre .0 in
-    let e : withSerials (c .before .before .before .args .s .now) ≡ true = sym (c .before .with-serials .ensures) ∙ c .if1 .taken in
-    let l = long-with w e in
-    (rw (size-with _ e), omega arith)
-
-returns-2 : tie.Need-returns-2
-returns-2 c =
-    let w = c .before .before .before .pre .0 in
-    let e : withSerials (c .before .before .before .args .s .now) ≡ false = sym (c .before .with-serials .ensures) ∙ c .if1 .left in
-    let l = long-without w e in
-    (rw (size-without _ e), omega arith)
+returns c = rw (c .vertex-size .ensures, c .before .tree-head .ensures) (refl, inside c)
 
 pub vertex-start-spec : {M : Type 1} → statement M
-vertex-start-spec =
-    tie.close
-    (tie.spec
-    with-serials-requires
-    mul-result
-    add-result
-    mul-result-2
-    add-result-2
-    returns
-    returns-2)
+vertex-start-spec = tie.close (tie.spec (λ c κs. search needs) vertex-size-requires mul-result add-result returns)

@@ -1,16 +1,14 @@
 -- `with_serials` meets its contract. Assumes nothing.
-use Rattle.model.specs.Tree.{withSerials}
+use mathlib.Core.Path.{_∙_}
 use native.Mathlib.Omega.{arith}
 use borrow.Author.Needs.{needs}
+use Rattle.model.specs.Tree.{withSerials}
 use Rattle.formats.proofs.places.with_serials.Statement.{statement}
 use Rattle.formats.proofs.places.with_serials.Tie as tie
 
-is-mark-requires : tie.Need-is-mark-requires
-is-mark-requires c κs = search needs
-
 returns : tie.Need-returns
 unfolding withSerials
-returns c = search needs
+returns c = c .is-mark .ensures ∙ rw (c .before .before .tree-head .ensures)
 
 pub with-serials-spec : {M : Type 1} → statement M
-with-serials-spec = tie.close (tie.spec is-mark-requires returns)
+with-serials-spec = tie.close (tie.spec (λ c κs. search needs) (λ c κs. search needs) returns)

@@ -3,8 +3,7 @@ use borrow.Author.Needs.{needs}
 use mathlib.Core.Path.{refl}
 use Prim.Native.Nat.{_+_, _*_, _≤_}
 use native.Mathlib.Omega.{arith}
-use Rattle.model.specs.Table.{rowLength}
-use Rattle.formats.specs.Table.{row-end}
+use Rattle.formats.specs.Table.{rowLength, row-end}
 use Rattle.formats.proofs.table.row_at.Statement.{statement}
 use Rattle.formats.proofs.table.row_at.Tie as tie
 

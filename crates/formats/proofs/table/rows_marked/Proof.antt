@@ -5,7 +5,7 @@ use Prim.Native.Nat.{_+_, _*_, _-_, _≤_}
 use native.Mathlib.Omega.{arith}
 use Rattle.foundations.specs.Lists.{every, every-step, every-end}
 use Rattle.model.specs.Bytes.{isMark}
-use Rattle.model.specs.Table.{rowLength}
+use Rattle.formats.specs.Table.{rowLength}
 use Rattle.formats.proofs.table.rows_marked.Statement.{statement}
 use Rattle.formats.proofs.table.rows_marked.Tie as tie
 

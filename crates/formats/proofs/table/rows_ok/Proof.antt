@@ -4,7 +4,8 @@ use mathlib.Core.Path.{_≡_, refl}
 use Prim.Native.Nat.{_+_, _*_, _-_, _≤_}
 use native.Mathlib.Omega.{arith}
 use Rattle.foundations.specs.Lists.{every, every-step, every-end}
-use Rattle.model.specs.Table.{rowLength, rowOk}
+use Rattle.model.specs.Table.{rowOk}
+use Rattle.formats.specs.Table.{rowLength}
 use Rattle.formats.proofs.table.rows_ok.Statement.{statement}
 use Rattle.formats.proofs.table.rows_ok.Tie as tie
 

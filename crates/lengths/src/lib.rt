@@ -1,0 +1,104 @@
+//! The length of a record from its mark, by cases (paper 02, [5]), and by name for those who read and write: no record's length is a number anywhere else in
+//! the code.
+use model::RecordLength;
+ghost use mathlib.Core.Path.{_≡_};
+ghost use Rattle.model.specs.Lengths.{treeHeadLength, vertexLength, edgeLength, tableHeadLength, vertexRowLength, edgeRowLength, serialVertexLength, headLength, partnerLength, subproblemLength, lengthOf};
+ghost use Rattle.lengths.specs.Bytes.{bytesOf};
+
+// The record whose mark is a, b. A row's length hangs on the table's K or L, that of a subproblem's record on the number of children of u and of neighbours
+// of v other than s; the other lengths hang on none of these.
+pub fn record_length(a: u8, b: u8, k: u8, l: u8, children: u8, others: u8) -> RecordLength
+    ensures { λ r. ⌜ r ≡ lengthOf a b k l children others ⌝ }
+{
+    match a {
+        0xB1 => match b {
+            0x01 => RecordLength::Bytes(3),
+            0x02 => RecordLength::Bytes(3),
+            0x03 => RecordLength::Bytes(5),
+            0x04 => RecordLength::Bytes(4),
+            0x05 => RecordLength::Bytes(2 + 4 * (k as usize)),
+            0x06 => RecordLength::Bytes(2 + 4 * (l as usize)),
+            0x07 => RecordLength::Bytes(7),
+            _ => RecordLength::Unknown,
+        },
+        0xC1 => match b {
+            0x01 => RecordLength::Bytes(8),
+            0x02 => RecordLength::Bytes(3),
+            0x03 => RecordLength::Bytes(6 + 4 * (children as usize) + 4 * (others as usize)),
+            _ => RecordLength::Unknown,
+        },
+        _ => RecordLength::Unknown,
+    }
+}
+
+// As a number, 0 for an unknown mark.
+fn bytes(r: RecordLength) -> usize
+    ensures { λ n. ⌜ n ≡ bytesOf r ⌝ }
+{
+    match r {
+        RecordLength::Bytes(n) => n,
+        RecordLength::Unknown => 0,
+    }
+}
+
+// ---- a record of each kind
+
+pub fn tree_head() -> usize
+    ensures { λ r. ⌜ r ≡ treeHeadLength ⌝ }
+{
+    bytes(record_length(0xB1, 0x01, 0, 0, 0, 0))
+}
+
+pub fn vertex() -> usize
+    ensures { λ r. ⌜ r ≡ vertexLength ⌝ }
+{
+    bytes(record_length(0xB1, 0x02, 0, 0, 0, 0))
+}
+
+pub fn edge() -> usize
+    ensures { λ r. ⌜ r ≡ edgeLength ⌝ }
+{
+    bytes(record_length(0xB1, 0x03, 0, 0, 0, 0))
+}
+
+pub fn table_head() -> usize
+    ensures { λ r. ⌜ r ≡ tableHeadLength ⌝ }
+{
+    bytes(record_length(0xB1, 0x04, 0, 0, 0, 0))
+}
+
+pub fn vertex_row(k: u8) -> usize
+    ensures { λ r. ⌜ r ≡ vertexRowLength k ⌝ }
+{
+    bytes(record_length(0xB1, 0x05, k, 0, 0, 0))
+}
+
+pub fn edge_row(l: u8) -> usize
+    ensures { λ r. ⌜ r ≡ edgeRowLength l ⌝ }
+{
+    bytes(record_length(0xB1, 0x06, 0, l, 0, 0))
+}
+
+pub fn serial_vertex() -> usize
+    ensures { λ r. ⌜ r ≡ serialVertexLength ⌝ }
+{
+    bytes(record_length(0xB1, 0x07, 0, 0, 0, 0))
+}
+
+pub fn head() -> usize
+    ensures { λ r. ⌜ r ≡ headLength ⌝ }
+{
+    bytes(record_length(0xC1, 0x01, 0, 0, 0, 0))
+}
+
+pub fn partner() -> usize
+    ensures { λ r. ⌜ r ≡ partnerLength ⌝ }
+{
+    bytes(record_length(0xC1, 0x02, 0, 0, 0, 0))
+}
+
+pub fn subproblem(children: u8, others: u8) -> usize
+    ensures { λ r. ⌜ r ≡ subproblemLength children others ⌝ }
+{
+    bytes(record_length(0xC1, 0x03, 0, 0, children, others))
+}
