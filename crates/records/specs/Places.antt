@@ -11,8 +11,9 @@ use lib.Arith.{digits-div, digits-mod}
 use lib.ListN.{length, getD, set, length-set}
 use lib.Seq.{getD-set-same, getD-set-other}
 use Rattle.foundations.specs.Tests.{same?}
-use Rattle.model.specs.Certificate.{squares, certificateLength, others, recordLength, recordAt}
+use Rattle.model.specs.Certificate.{squares, certificateLength, partnerAt, others, recordLength, recordAt}
 use Rattle.model.specs.Graph.{neighbours}
+use Rattle.model.specs.Lengths.{subproblemLength}
 use Rattle.model.specs.Limits.{vertexLimit, degreeLimit, widthLimit, squareLimit, certificateLimit, prefixLimit}
 use Rattle.model.specs.Order.{children, choices, width, subproblems, offset, index, uAt, vAt, sAt}
 use Rattle.model.specs.Tree.{count}
@@ -109,9 +110,9 @@ module _ {r f : List ℕ} {plan : List (List ℕ)} (I : Inputs r f plan) where
       let b = inputs-few .0 in
       (omega arith, u .1, rw (K .child-count) (K .few))
 
-  pub size-is : (i : ℕ) → i < count r → 6 + 4 * childCountIn plan (orderIn plan i) ≡ rowSize r i
+  pub size-is : (i : ℕ) → i < count r → subproblemLength (childCountIn plan (orderIn plan i)) 0 ≡ rowSize r i
   unfolding rowSize
-  size-is i l = rw (I .ready .planned .recorded (orderIn plan i) (order-low i l .0) .child-count, I .ready .planned .recorded i l .order)
+  size-is i l = rw (I .ready .planned .recorded (orderIn plan i) (order-low i l .0) .child-count, I .ready .planned .recorded i l .order) (omega arith)
 
   pub found-known : (v : ℕ) → v < count f → FoundKnown f plan v
   found-known v l =
@@ -143,7 +144,7 @@ module _ {r f : List ℕ} {plan : List (List ℕ)} (I : Inputs r f plan) where
 
   -- ---- where rows begin
 
-  pub places-first : (n : ℕ) → n ≡ count r → 8 + 3 * n ≡ recordAt r f (0 * width f)
+  pub places-first : (n : ℕ) → n ≡ count r → partnerAt n ≡ recordAt r f (0 * width f)
   unfolding recordAt
   places-first n e = rw e (ap (recordAt r f) zero-mul)
     where
@@ -162,7 +163,7 @@ module _ {r f : List ℕ} {plan : List (List ℕ)} (I : Inputs r f plan) where
             (same? v 0);
       }
 
-  pub places-next : (i w s q x : ℕ) → i < count r → w ≡ width f → s ≡ 6 + 4 * childCountIn plan (orderIn plan i) → q ≡ squares f (count f) → x ≡ recordAt r f (i * width f) →
+  pub places-next : (i w s q x : ℕ) → i < count r → w ≡ width f → s ≡ subproblemLength (childCountIn plan (orderIn plan i)) 0 → q ≡ squares f (count f) → x ≡ recordAt r f (i * width f) →
       (x + w * s + 4 * q ≡ recordAt r f ((i + 1) * width f)) × (recordAt r f ((i + 1) * width f) ≤ certificateLimit)
   places-next i w s q x l ew es eq ex =
       let a = row-step (I .table) r f (I .ready .passes) i l in
@@ -196,7 +197,7 @@ before-small d q a b = mul-le-mul {n₁ = q - 1} {m₁ = d - 1} {n₂ = 7} {m₂
 
 module _ {r f : List ℕ} {plan places : List (List ℕ)} (L : Laid r f plan places) where
   -- the row of the i-th vertex, as the arrays have it
-  pub row-at : (i first own : ℕ) → i < count r → first ≡ beginIn places i → own ≡ 6 + 4 * childCountIn plan (orderIn plan i) → RowBegins r f i first own
+  pub row-at : (i first own : ℕ) → i < count r → first ≡ beginIn places i → own ≡ subproblemLength (childCountIn plan (orderIn plan i)) 0 → RowBegins r f i first own
   row-at i first own l a b = record { low = l; begins = a ∙ L .at .begins i (omega arith); size = b ∙ size-is (L .inputs) i l }
 
   -- the parts' sum is the place, and it is small
@@ -219,8 +220,8 @@ pub record NumberAt (r f : List ℕ) (u v s k : ℕ) : Type 0 where
   pub s-is : sAt f k ≡ s
   pub sub : Subproblem r f u v s
   pub number : index r f u v s ≡ k
-  pub long : recordLength r f k ≡ 6 + 4 * length (children r u) + 4 * length (others f v s)
-  pub inside : recordAt r f k + (6 + 4 * length (children r u) + 4 * length (others f v s)) ≤ certificateLength r f
+  pub long : recordLength r f k ≡ subproblemLength (length (children r u)) (length (others f v s))
+  pub inside : recordAt r f k + subproblemLength (length (children r u)) (length (others f v s)) ≤ certificateLength r f
 
 module _ {table r f : List ℕ} {plan : List (List ℕ)} (N : Ready table r f plan) where
   pub number-at : (i v q : ℕ) → i < count r → v < count f → q ≤ length (neighbours f v) → NumberAt r f (orderIn plan i) v (getD (choices f v) q 0) (i * width f + (offset f v + q))
@@ -245,7 +246,7 @@ module _ {table r f : List ℕ} {plan : List (List ℕ)} (N : Ready table r f pl
       let es : sAt f k ≡ s = number-s N k (count f) v q refl lo (rw m (omega arith)) in
       let S = sub-at r f (r-sound .passed .ends) (r-sound .passed .tree) (f-sound .passed .ends) (f-sound .passed .tree) k low in
       let s-sub : Subproblem r f (uAt r f k) (vAt f k) (sAt f k) = record { u-low = S .u-low; v-low = S .v-low; s-in = S .s-in } in
-      let g : recordLength r f k ≡ 6 + 4 * length (children r (orderIn plan i)) + 4 * length (others f v s) = rw (eu, ev, es) in
+      let g : recordLength r f k ≡ subproblemLength (length (children r (orderIn plan i))) (length (others f v s)) = rw (eu, ev, es) in
       record {
         low = low;
         u-is = eu;

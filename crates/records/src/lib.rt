@@ -1,6 +1,11 @@
-//! Where a certificate's records stand: its length, where each row of records begins, and where one record does. What a record has of the neighbours of
-//! v: those other than s.
+//! Where a certificate's records stand: its length, where each row of records begins, and where one record does; going from one record to the next. What a
+//! record has of the neighbours of v: those other than s.
+pub mod cursor;
+
 use formats::tree::vertex_count;
+use lengths::head;
+use lengths::partner;
+use lengths::subproblem;
 use model::Limits;
 use plan::Plan;
 use plan::child_count;
@@ -11,11 +16,12 @@ use plan::offset as offset_of;
 ghost use Prim.Native.Nat.{_+_, _*_, _<_, _≤_};
 ghost use mathlib.Core.Path.{_≡_};
 ghost use lib.ListN.{length};
+ghost use Rattle.model.specs.Lengths.{subproblemLength};
 ghost use Rattle.model.specs.Limits.{vertexLimit, degreeLimit, certificateLimit, prefixLimit};
 ghost use Rattle.model.specs.Tree.{count};
 ghost use Rattle.model.specs.Graph.{neighbours};
 ghost use Rattle.model.specs.Order.{width, offset};
-ghost use Rattle.model.specs.Certificate.{recordAt};
+ghost use Rattle.model.specs.Certificate.{partnerAt, recordAt};
 ghost use Rattle.plan.specs.Plan.{childCountIn, orderIn};
 ghost use Rattle.certificate.specs.Places.{othersBefore};
 ghost use Rattle.records.specs.Places.{beginIn, squaresIn, Inputs, SquaresTo, Laid, RowBegins};
@@ -88,9 +94,18 @@ fn squares(places: &Places, v: u8) -> usize
 // What a record of the i-th vertex in postorder has beside the duals of v's neighbours: mark, value, a dual for each child.
 pub fn size(plan: &Plan, i: usize) -> usize
     requires { ⌜ (i < vertexLimit) × (orderIn (now plan) i < vertexLimit) × (childCountIn (now plan) (orderIn (now plan) i) ≤ degreeLimit) ⌝ }
-    ensures { λ r. ⌜ r ≡ 6 + 4 * childCountIn (now (plan .entry)) (orderIn (now (plan .entry)) i) ⌝ }
+    ensures { λ r. ⌜ r ≡ subproblemLength (childCountIn (now (plan .entry)) (orderIn (now (plan .entry)) i)) 0 ⌝ }
 {
-    6 + 4 * child_count(plan, in_order(plan, i))
+    let children = child_count(plan, in_order(plan, i));
+    subproblem(children as u8, 0)
+}
+
+// Where the records of a certificate of n recorded vertices begin: after the head and n partners.
+pub fn records_begin(n: usize) -> usize
+    requires { ⌜ n ≤ vertexLimit ⌝ }
+    ensures { λ r. ⌜ r ≡ partnerAt n ⌝ }
+{
+    head() + partner() * n
 }
 
 // The sums of squares, each in its place.
@@ -122,7 +137,7 @@ pub fn places_of(p: &mut Places, recorded: &[u8], found: &[u8], plan: &Plan)
     let w = width_of(found);
     square_sums(p, recorded, found, plan);
     let all = wide(p[m][1]);
-    let mut at = 8 + 3 * n;
+    let mut at = records_begin(n);
     p[0] = [at as u32, 0];
     let mut i: usize = 0;
     while i < n {
