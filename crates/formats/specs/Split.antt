@@ -11,32 +11,37 @@ use lib.Seq.{take-all, drop-drop}
 use borrow.Author.Tests.{eqb-false}
 use Rattle.foundations.specs.Tests.{less?, and-false, or-true, or-false, and-split, is-false}
 use Rattle.model.specs.Bytes.{byteAt, isMark, vertexMark, serialMark}
+use Rattle.model.specs.Lengths.{treeHeadLength}
 use Rattle.model.specs.Table.{tableLength}
 use Rattle.model.specs.Tree.{count, withSerials, vertexMarkOf}
 use Rattle.model.specs.Input.{tablePart, afterTable, lengthKnown, treeLength, recordedPart, foundPart}
 
 -- ---- the length of a tree, from its head and its first vertex mark
 
+-- the first vertex record has the mark m
+abbrev begins : List ℕ → List ℕ → Bool
+begins s m = isMark s treeHeadLength m
+
 -- of a mark that is cut off the second byte is missing
-no-mark : (s : List ℕ) (m : ℕ) → length s ≤ 4 → eqb 0 m ≡ false → isMark s 3 (0xB1 ∷ m ∷ []) ≡ false
-no-mark s m h e = rw (List·getD-eq-default s 0 {n = 4} h, e) (and-false (eqb (byteAt s 3) 0xB1))
+no-mark : (s : List ℕ) (m : ℕ) → length s < treeHeadLength + 2 → eqb 0 m ≡ false → begins s (0xB1 ∷ m ∷ []) ≡ false
+no-mark s m h e = rw (List·getD-eq-default s 0 {n = treeHeadLength + 1} (omega arith), e) (and-false (eqb (byteAt s treeHeadLength) 0xB1))
 
 -- the mark of the tree's kind is either mark
-pub either : (s : List ℕ) → (isMark s 3 vertexMark || isMark s 3 serialMark) ≡ isMark s 3 (vertexMarkOf s)
+pub either : (s : List ℕ) → (begins s vertexMark || begins s serialMark) ≡ begins s (vertexMarkOf s)
 unfolding vertexMarkOf withSerials
-either s = go (isMark s 3 serialMark) refl
+either s = go (begins s serialMark) refl
   where
-    go : (t : Bool) → isMark s 3 serialMark ≡ t → (isMark s 3 vertexMark || isMark s 3 serialMark) ≡ isMark s 3 (cond (isMark s 3 serialMark) serialMark vertexMark)
-    go true e = rw e (or-true (isMark s 3 vertexMark) ∙ sym e)
-    go false e = rw e (or-false (isMark s 3 vertexMark))
+    go : (t : Bool) → begins s serialMark ≡ t → (begins s vertexMark || begins s serialMark) ≡ begins s (cond (begins s serialMark) serialMark vertexMark)
+    go true e = rw e (or-true (begins s vertexMark) ∙ sym e)
+    go false e = rw e (or-false (begins s vertexMark))
 
-pub length-unknown : (s : List ℕ) → length s ≤ 4 → lengthKnown s ≡ false
+pub length-unknown : (s : List ℕ) → length s < treeHeadLength + 2 → lengthKnown s ≡ false
 unfolding lengthKnown
 length-unknown s h = rw (← either s, no-mark s 2 h refl, no-mark s 7 h refl) (and-false (not (eqb (count s) 0)))
 
-pub length-says : (s : List ℕ) → lengthKnown s ≡ true → (4 < length s) × (1 ≤ count s)
+pub length-says : (s : List ℕ) → lengthKnown s ≡ true → (treeHeadLength + 1 < length s) × (1 ≤ count s)
 unfolding lengthKnown
-length-says s h = (⊎-elim (λ l. l) (λ l. absurd (true≢false (sym h ∙ length-unknown s l))) (less? 4 (length s)), some)
+length-says s h = (⊎-elim (λ l. absurd (true≢false (sym h ∙ length-unknown s l))) (λ l. l) (less? (length s) (treeHeadLength + 2)), some)
   where
     some : 1 ≤ count s
     some = let z = eqb-false (count s) 0 (is-false _ (λ e. true≢false (sym (and-split (not (eqb (count s) 0)) _ h .0) ∙ rw e))) in omega (arith, z)

@@ -1,8 +1,8 @@
--- What is known of a weight table that passes items 1 and 2, and the sizes of its rows. Assumes nothing.
+-- What is known of a weight table that passes items 1 and 2; its length and its two blocks of rows. Assumes nothing.
 use mathlib.Core.Path.{_≡_, refl, sym, _∙_}
 use mathlib.Core.Bool.{Bool, true, false, not, cond, _&&_}
 use mathlib.Core.List.{List}
-use Prim.Native.Nat.{ℕ, _+_, _*_, _≤_, _<_}
+use Prim.Native.Nat.{ℕ, suc, _+_, _*_, _≤_, _<_, _^_}
 use native.Mathlib.Omega.{arith}
 use native.Mathlib.Nat.{suc-mul, mul-le-mul, mul-le-mul-right}
 use lib.ListN.{length, List·getD-eq-default}
@@ -14,30 +14,54 @@ use Rattle.model.specs.Limits.{vertexLabelLimit, edgeLabelLimit}
 use Rattle.model.specs.Bytes.{int32At}
 use Rattle.model.specs.Weights.{weightOk}
 use Rattle.model.specs.Refusals.{firstOf}
+use Rattle.model.specs.Lengths.{tableHeadLength, vertexRowLength, edgeRowLength}
 use Rattle.model.specs.Table.{vertexLabels, edgeLabels, vertexRow, edgeRow, tableLength, column, tableSized, tableMarked, rowOk, weightsOk, tableItem}
+use Rattle.formats.specs.declared.table.Block.{Block}
 
--- ---- rows: the products, which `omega` takes as they stand
+-- ---- lengths: the products, which `omega` takes as they stand
 
--- a row of k weights, of either block
-abbrev pub rowLength : ℕ → ℕ
-rowLength k = 2 + 4 * k
+-- k rows of w bytes each: k is a byte, and a row is far shorter than w may be
+pub rows-small : (k w : ℕ) → k < 256 → w < 2 ^ 16 → k * w < 2 ^ 24
+rows-small k w h l = let a : k ≤ 255 = omega arith in let b : w ≤ 65535 = omega arith in let p : k * w ≤ 255 * 65535 = mul-le-mul a b in omega arith
 
--- row i of k rows of length w ends before the last does
-pub row-end : (i k w : ℕ) → i < k → i * w + w ≤ k * w
-row-end i k w h = rw (← suc-mul i w) (mul-le-mul-right w h)
+-- where the edge rows of a table of k vertex labels start
+pub record EdgeStart (k r : ℕ) : Type 0 where
+  pub is : r ≡ tableHeadLength + k * vertexRowLength k
+  pub small : r < tableHeadLength + 2 ^ 24
 
-pub rows-small : (k : ℕ) → k < 256 → k * rowLength k ≤ 260610
-rows-small k h = let a : k ≤ 255 = omega arith in let b : rowLength k ≤ 1022 = omega arith in mul-le-mul a b
+-- the length of a table of k vertex labels and l edge labels
+abbrev pub tableSize : ℕ → ℕ → ℕ
+tableSize k l = tableHeadLength + k * vertexRowLength k + l * edgeRowLength l
 
--- k rows of k weights; the bound is for any byte k
-pub record RowsLength (k r : ℕ) : Type 0 where
-  pub is : r ≡ k * rowLength k
-  pub small : r ≤ 260610
+-- ---- blocks of rows
 
--- where row i of the k rows from `start` on stands, and that it ends where they do
-pub record RowAt (start k i r : ℕ) : Type 0 where
-  pub is : r ≡ start + i * rowLength k
-  pub room : r + rowLength k ≤ start + k * rowLength k
+abbrev pub vertexBlock : List ℕ → Block
+vertexBlock table = record { start = tableHeadLength; rows = vertexLabels table; row = vertexRowLength (vertexLabels table) }
+
+abbrev pub edgeBlock : List ℕ → Block
+edgeBlock table = record { start = vertexRow table (vertexLabels table); rows = edgeLabels table; row = edgeRowLength (edgeLabels table) }
+
+-- where row i starts
+abbrev pub rowStart : Block → ℕ → ℕ
+rowStart b i = b .start + i * b .row
+
+-- row i starts at r, and ends where the block does or before
+pub record RowAt (b : Block) (i r : ℕ) : Type 0 where
+  pub is : r ≡ rowStart b i
+  pub room : r + b .row ≤ rowStart b (b .rows)
+
+pub row-end : (b : Block) (i : ℕ) → i < b .rows → rowStart b i + b .row ≤ rowStart b (b .rows)
+row-end b i h = let e = suc-mul i (b .row) in let l : suc i * b .row ≤ b .rows * b .row = mul-le-mul-right (b .row) h in omega arith
+
+-- the table holds the block, and each row the weights, as many as there are rows
+pub record BlockIn (table : List ℕ) (b : Block) : Type 0 where
+  pub inside : rowStart b (b .rows) ≤ length table
+  pub wide : column 0 (b .rows) ≤ b .row
+
+-- the block b, which the table holds
+pub record BlockOf (table : List ℕ) (b r : Block) : Type 0 where
+  pub is : r ≡ b
+  pub held : BlockIn table r
 
 -- ---- a table that passes
 
@@ -71,7 +95,7 @@ sized-says table h =
     }
 
 -- no room for the head: L is 0
-pub short-head : (table : List ℕ) → length table < 4 → false ≡ tableSized table
+pub short-head : (table : List ℕ) → length table < tableHeadLength → false ≡ tableSized table
 unfolding tableSized
 short-head table h = rw (List·getD-eq-default table 0 {n = 3} (omega arith)) (sym (and-false (leb 1 (vertexLabels table) && leb (vertexLabels table) vertexLabelLimit)))
 
@@ -86,10 +110,10 @@ tableItem-chain table = go (tableSized table) (tableMarked table) (weightsOk tab
     go true false d = refl
     go false b d = refl
 
--- k rows of k entries
-entries : (table : List ℕ) (start k : ℕ) → every (λ i. rowOk table (start + i * rowLength k) k) k ≡ true → (i j : ℕ) → i < k → j < k → weightOk (int32At table (column (start + i * rowLength k) j)) ≡ true
+-- every weight of a block
+entries : (table : List ℕ) (b : Block) → every (λ i. rowOk table (rowStart b i) (b .rows)) (b .rows) ≡ true → (i j : ℕ) → i < b .rows → j < b .rows → weightOk (int32At table (column (rowStart b i) j)) ≡ true
 unfolding rowOk
-entries table start k h i j li lj = every-at (λ j. weightOk (int32At table (column (start + i * rowLength k) j))) j k (every-at (λ i. rowOk table (start + i * rowLength k) k) i k h li) lj
+entries table b h i j li lj = every-at (λ j. weightOk (int32At table (column (rowStart b i) j))) j (b .rows) (every-at (λ i. rowOk table (rowStart b i) (b .rows)) i (b .rows) h li) lj
 
 pub table-passed : (table : List ℕ) → tableItem table ≡ 0 → TablePassed table
 unfolding weightsOk
@@ -100,6 +124,6 @@ table-passed table h =
     let w = and-split (every (λ i. rowOk table (vertexRow table i) (vertexLabels table)) (vertexLabels table)) _ (r .0) in
     record {
       sized = sized-says table (p .0);
-      vertex-ok = entries table 4 (vertexLabels table) (w .0);
-      edge-ok = entries table (4 + vertexLabels table * rowLength (vertexLabels table)) (edgeLabels table) (w .1);
+      vertex-ok = entries table (vertexBlock table) (w .0);
+      edge-ok = entries table (edgeBlock table) (w .1);
     }

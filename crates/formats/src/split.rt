@@ -2,8 +2,9 @@
 use crate::bytes::byte_or_zero;
 use crate::marks::is_mark;
 use crate::places::tree_size;
-use crate::table::rows_length;
+use crate::table::table_size;
 use integers::lesser;
+use lengths::tree_head;
 ghost use mathlib.Core.Path.{_≡_};
 ghost use Rattle.model.specs.Table.{tableLength};
 ghost use Rattle.model.specs.Input.{lengthKnown, treeLength};
@@ -18,20 +19,19 @@ pub struct Parts {
 fn table_length(input: &[u8]) -> usize
     ensures { λ r. ⌜ r ≡ tableLength (now (input .entry)) ⌝ }
 {
-    let k = byte_or_zero(input, 2);
-    let l = byte_or_zero(input, 3);
-    4 + rows_length(k) + rows_length(l)
+    table_size(byte_or_zero(input, 2), byte_or_zero(input, 3))
 }
 
 // The count and the first vertex mark say how long a tree is.
 fn is_length_known(s: &[u8]) -> bool
     ensures { λ r. ⌜ r ≡ lengthKnown (now (s .entry)) ⌝ }
 {
-    if s.len() < 5 {
+    let first = tree_head();
+    if s.len() < first + 2 {
         return false;
     }
-    let short = is_mark(s, 3, b"\xB1\x02");
-    let long = is_mark(s, 3, b"\xB1\x07");
+    let short = is_mark(s, first, b"\xB1\x02");
+    let long = is_mark(s, first, b"\xB1\x07");
     (s[2] != 0) & (short | long)
 }
 

@@ -1,48 +1,50 @@
-//! The weight table: items 1 and 2, and access to a table that passes them. Its two blocks have k rows of k weights each, K for vertices and L for edges.
+//! The weight table: items 1 and 2, and access to a table that passes them. After its head it has two blocks of rows, K vertex rows of K weights and L edge
+//! rows of L weights.
+use lengths::edge_row;
+use lengths::table_head;
+use lengths::vertex_row;
 use model::Limits;
 ghost use mathlib.Core.Path.{_≡_};
-ghost use Prim.Native.Nat.{_+_, _*_, _<_, _≤_, _^_};
+ghost use Prim.Native.Nat.{_+_, _<_, _≤_, _^_};
 ghost use Rattle.foundations.specs.Lists.{every};
 ghost use Rattle.model.specs.Bytes.{isMark, int32At};
 ghost use Rattle.model.specs.Weights.{weightOk};
 ghost use Rattle.model.specs.Table.{vertexLabels, edgeLabels, vertexRow, edgeRow, column, tableSized, tableMarked, rowOk, weightsOk, tableItem};
-ghost use Rattle.formats.specs.Table.{rowLength, RowsLength, RowAt, TableSized};
+ghost use Rattle.formats.specs.Table.{EdgeStart, tableSize, vertexBlock, edgeBlock, rowStart, BlockOf, BlockIn, RowAt, TableSized};
 
-// A row of k weights: its mark and 4 bytes for each.
-fn row_length(k: u8) -> usize
-    ensures { λ r. ⌜ r ≡ rowLength k ⌝ }
-{
-    2 + 4 * (k as usize)
+// A block of rows: where its first row stands, how many rows it has, each of as many weights, and how many bytes a row has.
+struct Block {
+    start: usize,
+    rows: u8,
+    row: usize,
 }
 
-// A block of k rows.
-pub(crate) fn rows_length(k: u8) -> usize
-    ensures { λ r. ⌜ RowsLength k r ⌝ }
+// Where the edge rows of a table of k vertex labels start.
+fn edge_start(k: u8) -> usize
+    ensures { λ r. ⌜ EdgeStart k r ⌝ }
 {
-    (k as usize) * row_length(k)
+    table_head() + (k as usize) * vertex_row(k)
 }
 
-// Where row i of the block of k rows from `start` on stands.
-fn row_at(start: usize, k: u8, i: u8) -> usize
-    requires { ⌜ start + k * rowLength k < 2 ^ 64 ⌝ }
-    requires { ⌜ i < k ⌝ }
-    ensures { λ r. ⌜ RowAt start k i r ⌝ }
+// The length of a table of k vertex labels and l edge labels.
+pub(crate) fn table_size(k: u8, l: u8) -> usize
+    ensures { λ r. ⌜ r ≡ tableSize k l ⌝ }
 {
-    start + (i as usize) * row_length(k)
+    edge_start(k) + (l as usize) * edge_row(l)
 }
 
 // The head's numbers and the length.
 fn is_sized(table: &[u8]) -> bool
     ensures { λ r. ⌜ r ≡ tableSized (now (table .entry)) ⌝ }
 {
-    if table.len() < 4 {
+    if table.len() < table_head() {
         return false;
     }
     let k = table[2];
     let l = table[3];
     let k_ok = (1 <= k) & (k <= Limits::VERTEX_LABELS);
     let l_ok = (1 <= l) & (l <= Limits::EDGE_LABELS);
-    k_ok & (l_ok & (table.len() == 4 + rows_length(k) + rows_length(l)))
+    k_ok & (l_ok & (table.len() == table_size(k, l)))
 }
 
 // K, how many vertex labels there are.
@@ -61,32 +63,60 @@ pub(crate) fn edge_labels(table: &[u8]) -> u8
     table[3]
 }
 
-// Where the edge rows start.
-fn edge_start(table: &[u8]) -> usize
+// The K vertex rows, which follow the head.
+fn vertex_block(table: &[u8]) -> Block
     requires { ⌜ TableSized (now table) ⌝ }
-    ensures { λ r. ⌜ r ≡ 4 + vertexLabels (now (table .entry)) * rowLength (vertexLabels (now (table .entry))) ⌝ }
+    ensures { λ r. ⌜ BlockOf (now (table .entry)) (vertexBlock (now (table .entry))) r ⌝ }
 {
-    4 + rows_length(vertex_labels(table))
+    let k = vertex_labels(table);
+    Block {
+        start: table_head(),
+        rows: k,
+        row: vertex_row(k),
+    }
+}
+
+// The L edge rows, which follow the vertex rows.
+fn edge_block(table: &[u8]) -> Block
+    requires { ⌜ TableSized (now table) ⌝ }
+    ensures { λ r. ⌜ BlockOf (now (table .entry)) (edgeBlock (now (table .entry))) r ⌝ }
+{
+    let k = vertex_labels(table);
+    let l = edge_labels(table);
+    Block {
+        start: edge_start(k),
+        rows: l,
+        row: edge_row(l),
+    }
+}
+
+// Where row i of the block stands.
+fn row_at(block: Block, i: u8) -> usize
+    requires { ⌜ rowStart block (block .rows) < 2 ^ 64 ⌝ }
+    requires { ⌜ i < block .rows ⌝ }
+    ensures { λ r. ⌜ RowAt block i r ⌝ }
+{
+    block.start + (i as usize) * block.row
 }
 
 // Row i of the block has the mark m.
-fn row_marked(table: &[u8], start: usize, k: u8, i: u8, m: &[u8; 2]) -> bool
-    requires { do ⌜ start + k * rowLength k ≤ (← ⟦table.len()⟧) ⌝ }
-    requires { ⌜ i < k ⌝ }
-    ensures { λ r. ⌜ r ≡ isMark (now (table .entry)) (start + i * rowLength k) (now (m .entry)) ⌝ }
+fn row_marked(table: &[u8], block: Block, i: u8, m: &[u8; 2]) -> bool
+    requires { ⌜ BlockIn (now table) block ⌝ }
+    requires { ⌜ i < block .rows ⌝ }
+    ensures { λ r. ⌜ r ≡ isMark (now (table .entry)) (rowStart block i) (now (m .entry)) ⌝ }
 {
-    crate::marks::is_mark(table, row_at(start, k, i), m)
+    crate::marks::is_mark(table, row_at(block, i), m)
 }
 
 // Every row of the block has the mark m.
-fn rows_marked(table: &[u8], start: usize, k: u8, m: &[u8; 2]) -> bool
-    requires { do ⌜ start + k * rowLength k ≤ (← ⟦table.len()⟧) ⌝ }
-    ensures { λ r. ⌜ r ≡ every (λ i. isMark (now (table .entry)) (start + i * rowLength k) (now (m .entry))) k ⌝ }
+fn rows_marked(table: &[u8], block: Block, m: &[u8; 2]) -> bool
+    requires { ⌜ BlockIn (now table) block ⌝ }
+    ensures { λ r. ⌜ r ≡ every (λ i. isMark (now (table .entry)) (rowStart block i) (now (m .entry))) (block .rows) ⌝ }
 {
     let mut ok = true;
     let mut i: u8 = 0;
-    while i < k {
-        let marked = row_marked(table, start, k, i, m);
+    while i < block.rows {
+        let marked = row_marked(table, block, i, m);
         ok = ok & marked;
         i += 1;
     }
@@ -99,22 +129,22 @@ fn is_marked(table: &[u8]) -> bool
     ensures { λ r. ⌜ r ≡ tableMarked (now (table .entry)) ⌝ }
 {
     let head = crate::marks::is_mark(table, 0, b"\xB1\x04");
-    let vertices = rows_marked(table, 4, vertex_labels(table), b"\xB1\x05");
-    let edges = rows_marked(table, edge_start(table), edge_labels(table), b"\xB1\x06");
+    let vertices = rows_marked(table, vertex_block(table), b"\xB1\x05");
+    let edges = rows_marked(table, edge_block(table), b"\xB1\x06");
     head & (vertices & edges)
 }
 
 // The weight in column j of the row at `row` may stand in a table.
 fn entry_ok(table: &[u8], row: usize, j: u8) -> bool
-    requires { do ⌜ row + rowLength j + 4 ≤ (← ⟦table.len()⟧) ⌝ }
+    requires { do ⌜ column row (j + 1) ≤ (← ⟦table.len()⟧) ⌝ }
     ensures { λ r. ⌜ r ≡ weightOk (int32At (now (table .entry)) (column row j)) ⌝ }
 {
     integers::weight_ok(integers::int32_at(table, row + 2 + 4 * (j as usize)))
 }
 
-// So may every weight of the row.
+// So may the k weights of the row.
 fn row_ok(table: &[u8], row: usize, k: u8) -> bool
-    requires { do ⌜ row + rowLength k ≤ (← ⟦table.len()⟧) ⌝ }
+    requires { do ⌜ column row k ≤ (← ⟦table.len()⟧) ⌝ }
     ensures { λ r. ⌜ r ≡ rowOk (now (table .entry)) row k ⌝ }
 {
     let mut ok = true;
@@ -128,14 +158,14 @@ fn row_ok(table: &[u8], row: usize, k: u8) -> bool
 }
 
 // So may every weight of the block.
-fn rows_ok(table: &[u8], start: usize, k: u8) -> bool
-    requires { do ⌜ start + k * rowLength k ≤ (← ⟦table.len()⟧) ⌝ }
-    ensures { λ r. ⌜ r ≡ every (λ i. rowOk (now (table .entry)) (start + i * rowLength k) k) k ⌝ }
+fn rows_ok(table: &[u8], block: Block) -> bool
+    requires { ⌜ BlockIn (now table) block ⌝ }
+    ensures { λ r. ⌜ r ≡ every (λ i. rowOk (now (table .entry)) (rowStart block i) (block .rows)) (block .rows) ⌝ }
 {
     let mut ok = true;
     let mut i: u8 = 0;
-    while i < k {
-        let fine = row_ok(table, row_at(start, k, i), k);
+    while i < block.rows {
+        let fine = row_ok(table, row_at(block, i), block.rows);
         ok = ok & fine;
         i += 1;
     }
@@ -147,8 +177,8 @@ fn weights_ok(table: &[u8]) -> bool
     requires { ⌜ TableSized (now table) ⌝ }
     ensures { λ r. ⌜ r ≡ weightsOk (now (table .entry)) ⌝ }
 {
-    let vertices = rows_ok(table, 4, vertex_labels(table));
-    let edges = rows_ok(table, edge_start(table), edge_labels(table));
+    let vertices = rows_ok(table, vertex_block(table));
+    let edges = rows_ok(table, edge_block(table));
     vertices & edges
 }
 
@@ -172,13 +202,13 @@ pub fn table_item(table: &[u8]) -> u8
 }
 
 // The weight in column j of row i of the block.
-fn weight_at(table: &[u8], start: usize, k: u8, i: u8, j: u8) -> i32
-    requires { do ⌜ start + k * rowLength k ≤ (← ⟦table.len()⟧) ⌝ }
-    requires { ⌜ i < k ⌝ }
-    requires { ⌜ j < k ⌝ }
-    ensures { λ r. ⌜ r ≡ int32At (now (table .entry)) (column (start + i * rowLength k) j) ⌝ }
+fn weight_at(table: &[u8], block: Block, i: u8, j: u8) -> i32
+    requires { ⌜ BlockIn (now table) block ⌝ }
+    requires { ⌜ i < block .rows ⌝ }
+    requires { ⌜ j < block .rows ⌝ }
+    ensures { λ r. ⌜ r ≡ int32At (now (table .entry)) (column (rowStart block i) j) ⌝ }
 {
-    integers::int32_at(table, row_at(start, k, i) + 2 + 4 * (j as usize))
+    integers::int32_at(table, row_at(block, i) + 2 + 4 * (j as usize))
 }
 
 // The weight of the recorded vertex label i and the found one j.
@@ -188,7 +218,7 @@ pub fn vertex_weight_at(table: &[u8], i: u8, j: u8) -> i32
     requires { ⌜ j < vertexLabels (now table) ⌝ }
     ensures { λ r. ⌜ r ≡ int32At (now (table .entry)) (column (vertexRow (now (table .entry)) i) j) ⌝ }
 {
-    weight_at(table, 4, vertex_labels(table), i, j)
+    weight_at(table, vertex_block(table), i, j)
 }
 
 // The weight of the recorded edge label i and the found one j.
@@ -198,5 +228,5 @@ pub fn edge_weight_at(table: &[u8], i: u8, j: u8) -> i32
     requires { ⌜ j < edgeLabels (now table) ⌝ }
     ensures { λ r. ⌜ r ≡ int32At (now (table .entry)) (column (edgeRow (now (table .entry)) i) j) ⌝ }
 {
-    weight_at(table, edge_start(table), edge_labels(table), i, j)
+    weight_at(table, edge_block(table), i, j)
 }

@@ -5,6 +5,7 @@ use crate::places::tree_size;
 use crate::places::vertex_start;
 use crate::places::with_serials;
 use crate::serials::do_serials_differ;
+use lengths::tree_head;
 use model::Limits;
 use model::VertexTable;
 ghost use Prim.Native.Nat.{_+_, _≤_, _<_, _-_};
@@ -57,10 +58,11 @@ pub fn vertex_label(s: &[u8], n: usize, v: usize) -> u8
 
 // ---- item 3: length, count and marks
 
+// The count, and the length, which hangs on the head and the first vertex mark.
 fn is_sized(s: &[u8]) -> bool
     ensures { λ r. ⌜ r ≡ sized (now (s .entry)) ⌝ }
 {
-    if s.len() < 5 {
+    if s.len() < tree_head() + 2 {
         return false;
     }
     let n = s[2];

@@ -6,10 +6,10 @@ use Rattle.formats.proofs.places.vertex_size.Statement.{statement}
 use Rattle.formats.proofs.places.vertex_size.Tie as tie
 
 returns : tie.Need-returns
-returns c = c .serial-vertex .ensures ∙ sym (size-with _ (sym (c .before .before .with-serials .ensures) ∙ c .before .if1 .taken))
+returns c = rw (size-with _ (sym (c .before .before .with-serials .ensures) ∙ c .before .if1 .taken)) (search needs)
 
 returns-2 : tie.Need-returns-2
-returns-2 c = c .vertex .ensures ∙ sym (size-without _ (sym (c .before .before .with-serials .ensures) ∙ c .before .if1 .left))
+returns-2 c = rw (size-without _ (sym (c .before .before .with-serials .ensures) ∙ c .before .if1 .left)) (search needs)
 
 pub vertex-size-spec : {M : Type 1} → statement M
 vertex-size-spec = tie.close (tie.spec (λ c κs. search needs) (λ c κs. search needs) (λ c κs. search needs) returns returns-2)

@@ -1,9 +1,10 @@
 -- `tree_length` meets its contract. Assumes nothing.
 use mathlib.Core.Path.{_≡_, sym, _∙_}
 use mathlib.Core.Bool.{false}
-use Prim.Native.Nat.{_≤_, _<_}
+use Prim.Native.Nat.{_+_, _≤_, _<_}
 use lib.ListN.{length}
 use Rattle.foundations.specs.Tests.{not-says, passed}
+use Rattle.model.specs.Lengths.{treeHeadLength}
 use Rattle.model.specs.Tree.{count}
 use Rattle.model.specs.Input.{lengthKnown, treeLength}
 use Rattle.formats.specs.Split.{length-says}
@@ -13,11 +14,8 @@ use Rattle.formats.proofs.split.tree_length.Statement.{statement}
 use Rattle.formats.proofs.split.tree_length.Tie as tie
 
 -- what a known length says
-says : (c : tie.Else1) → (4 < length (c .before .before .before .args .s .now)) × (1 ≤ count (c .before .before .before .args .s .now))
+says : (c : tie.Else1) → (treeHeadLength + 1 < length (c .before .before .before .args .s .now)) × (1 ≤ count (c .before .before .before .args .s .now))
 says c = length-says _ (passed _ _ (c .before .is-length-known .ensures) (c .if1 .left))
-
-is-length-known-requires : tie.Need-is-length-known-requires
-is-length-known-requires c κs = search needs
 
 returns : tie.Need-returns
 unfolding treeLength
@@ -36,11 +34,4 @@ unfolding treeLength
 returns-2 c = rw (passed _ _ (c .before .before .before .is-length-known .ensures) (c .before .before .if1 .left)) (c .tree-size .ensures)
 
 pub tree-length-spec : {M : Type 1} → statement M
-tree-length-spec =
-    tie.close
-    (tie.spec
-    is-length-known-requires
-    returns
-    shared-slice-read-tree-size
-    tree-size-requires
-    returns-2)
+tree-length-spec = tie.close (tie.spec (λ c κs. search needs) returns shared-slice-read-tree-size tree-size-requires returns-2)

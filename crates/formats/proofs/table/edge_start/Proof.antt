@@ -1,20 +1,24 @@
 -- `edge_start` meets its contract. Assumes nothing.
+use mathlib.Core.Path.{refl}
+use Prim.Native.Nat.{_*_, _<_, _^_}
+use native.Mathlib.Omega.{arith}
 use borrow.Author.Needs.{needs}
+use Rattle.model.specs.Lengths.{vertexRowLength}
+use Rattle.formats.specs.Table.{rows-small}
 use Rattle.formats.proofs.table.edge_start.Statement.{statement}
 use Rattle.formats.proofs.table.edge_start.Tie as tie
 
-vertex-labels-requires : tie.Need-vertex-labels-requires
-vertex-labels-requires c κs = search needs
+small : (c : tie.After-vertex-row) → c .before .before .args .k * vertexRowLength (c .before .before .args .k) < 2 ^ 24
+small c = rows-small (c .before .before .args .k) _ (omega arith) (omega arith)
 
-rows-length-requires : tie.Need-rows-length-requires
-rows-length-requires c κs = search needs
+mul-result : tie.Need-mul-result
+mul-result c = rw (c .vertex-row .ensures) (omega (arith, small c))
 
 add-result : tie.Need-add-result
-add-result c = search needs
+add-result c = rw (c .vertex-row .ensures, c .before .table-head .ensures) (omega (arith, small c))
 
 returns : tie.Need-returns
-returns c = rw (c .rows-length .ensures .is, c .before .vertex-labels .ensures)
+returns c = rw (c .vertex-row .ensures, c .before .table-head .ensures) (record { is = refl; small = omega (arith, small c) })
 
 pub edge-start-spec : {M : Type 1} → statement M
-edge-start-spec =
-    tie.close (tie.spec vertex-labels-requires rows-length-requires add-result returns)
+edge-start-spec = tie.close (tie.spec (λ c κs. search needs) (λ c κs. search needs) mul-result add-result returns)

@@ -1,27 +1,22 @@
 -- `row_at` meets its contract. Assumes nothing.
-use borrow.Author.Needs.{needs}
 use mathlib.Core.Path.{refl}
-use Prim.Native.Nat.{_+_, _*_, _≤_}
+use Prim.Native.Nat.{_+_, _≤_}
 use native.Mathlib.Omega.{arith}
-use Rattle.formats.specs.Table.{rowLength, row-end}
+use Rattle.formats.specs.Table.{rowStart, row-end}
 use Rattle.formats.proofs.table.row_at.Statement.{statement}
 use Rattle.formats.proofs.table.row_at.Tie as tie
 
-row-length-requires : tie.Need-row-length-requires
-row-length-requires c κs = search needs
-
--- row i ends where the rows do, or before
-room : (c : tie.After-row-length) → c .before .args .i * rowLength (c .before .args .k) + rowLength (c .before .args .k) ≤ c .before .args .k * rowLength (c .before .args .k)
-room c = row-end (c .before .args .i) (c .before .args .k) (rowLength (c .before .args .k)) (c .before .pre .1)
+room : (c : tie.Start) → rowStart (c .args .block) (c .args .i) + c .args .block .row ≤ rowStart (c .args .block) (c .args .block .rows)
+room c = row-end (c .args .block) (c .args .i) (c .pre .1)
 
 mul-result : tie.Need-mul-result
-mul-result c = rw (c .row-length .ensures) (omega (arith, room c))
+mul-result c = omega (arith, room (c .before))
 
 add-result : tie.Need-add-result
-add-result c = rw (c .row-length .ensures) (omega (arith, room c))
+add-result c = omega (arith, room (c .before .before))
 
 returns : tie.Need-returns
-returns c = rw (c .row-length .ensures) (record { is = refl; room = omega (arith, room c) })
+returns c = record { is = refl; room = room (c .before .before) }
 
 pub row-at-spec : {M : Type 1} → statement M
-row-at-spec = tie.close (tie.spec row-length-requires mul-result add-result returns)
+row-at-spec = tie.close (tie.spec mul-result add-result returns)

@@ -3,14 +3,8 @@ use borrow.Author.Needs.{needs}
 use Rattle.formats.proofs.table.row_marked.Statement.{statement}
 use Rattle.formats.proofs.table.row_marked.Tie as tie
 
-row-at-requires : tie.Need-row-at-requires
-row-at-requires c κs = search needs
-
-is-mark-requires : tie.Need-is-mark-requires
-is-mark-requires c κs = search needs
-
 returns : tie.Need-returns
 returns c = rw (c .is-mark .ensures, c .before .row-at .ensures .is)
 
 pub row-marked-spec : {M : Type 1} → statement M
-row-marked-spec = tie.close (tie.spec row-at-requires is-mark-requires returns)
+row-marked-spec = tie.close (tie.spec (λ c κs. search needs) (λ c κs. search needs) returns)

@@ -20,9 +20,6 @@ loop-holds : tie.Need-loop-holds Inv-loop μ-loop
 unfolding every rowOk
 loop-holds c = (omega arith, refl)
 
-entry-ok-requires : tie.Need-entry-ok-requires Inv-loop μ-loop
-entry-ok-requires c κs = search needs
-
 loop-again : tie.Need-loop-again Inv-loop μ-loop
 unfolding rowOk
 loop-again c =
@@ -40,4 +37,4 @@ returns c =
 pub row-ok-spec : {M : Type 1} → statement M
 row-ok-spec =
     tie.close
-    (tie.spec Inv-loop μ-loop loop-holds entry-ok-requires (λ c. search needs) (λ c. search needs) loop-again returns)
+    (tie.spec Inv-loop μ-loop loop-holds (λ c κs. search needs) (λ c. search needs) (λ c. search needs) loop-again returns)

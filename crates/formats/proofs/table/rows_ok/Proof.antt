@@ -1,52 +1,35 @@
 -- `rows_ok` meets its contract: the test is gathered over the rows. Assumes nothing.
-use borrow.Author.Needs.{needs}
 use mathlib.Core.Path.{_≡_, refl}
-use Prim.Native.Nat.{_+_, _*_, _-_, _≤_}
+use Prim.Native.Nat.{_-_, _≤_}
 use native.Mathlib.Omega.{arith}
+use borrow.Author.Needs.{needs}
 use Rattle.foundations.specs.Lists.{every, every-step, every-end}
 use Rattle.model.specs.Table.{rowOk}
-use Rattle.formats.specs.Table.{rowLength}
+use Rattle.formats.specs.Table.{rowStart}
 use Rattle.formats.proofs.table.rows_ok.Statement.{statement}
 use Rattle.formats.proofs.table.rows_ok.Tie as tie
 
 abbrev Inv-loop : tie.InvT-loop
-Inv-loop table start k ok₀ i₀ ok i = (i ≤ k) × (ok ≡ every (λ n. rowOk table (start + n * rowLength k) k) i)
+Inv-loop table block ok₀ i₀ ok i = (i ≤ block .rows) × (ok ≡ every (λ n. rowOk table (rowStart block n) (block .rows)) i)
 
 abbrev μ-loop : tie.MeasureT-loop
-μ-loop table start k ok₀ i₀ ok i = k - i
+μ-loop table block ok₀ i₀ ok i = block .rows - i
 
 loop-holds : tie.Need-loop-holds Inv-loop μ-loop
 unfolding every
 loop-holds c = (omega arith, refl)
 
-row-at-requires : tie.Need-row-at-requires Inv-loop μ-loop
-row-at-requires c κs = search needs
-
-row-ok-requires : tie.Need-row-ok-requires Inv-loop μ-loop
-row-ok-requires c κs = search needs
-
 loop-again : tie.Need-loop-again Inv-loop μ-loop
 loop-again c =
-    let l = c .before .before .before in
+    let l = c .before .before .before .before in
     let a = l .before .before .args in
-    (omega arith, every-step (λ n. rowOk (a .table .now) (a .start + n * rowLength (a .k)) (a .k)) (l .loop .i) (l .loop .ok) (c .row-ok .result) (l .loop .inv .1) (rw (c .row-ok .ensures, c .before .row-at .ensures .is)))
+    (omega arith, every-step (λ n. rowOk (a .table .now) (rowStart (a .block) n) (a .block .rows)) (l .loop .i) (l .loop .ok) (c .row-ok .result) (l .loop .inv .1) (rw (c .row-ok .ensures, c .before .row-at .ensures .is)))
 
 returns : tie.Need-returns Inv-loop μ-loop
 returns c =
-    let l = c .before in
+    let l = c .before .before in
     let a = l .before .before .args in
-    every-end (λ n. rowOk (a .table .now) (a .start + n * rowLength (a .k)) (a .k)) (l .loop .i) (a .k) (l .loop .ok) (l .loop .inv .1) (omega arith)
+    every-end (λ n. rowOk (a .table .now) (rowStart (a .block) n) (a .block .rows)) (l .loop .i) (a .block .rows) (l .loop .ok) (l .loop .inv .1) (omega arith)
 
 pub rows-ok-spec : {M : Type 1} → statement M
-rows-ok-spec =
-    tie.close
-    (tie.spec
-    Inv-loop
-    μ-loop
-    loop-holds
-    row-at-requires
-    row-ok-requires
-    (λ c. search needs)
-    (λ c. search needs)
-    loop-again
-    returns)
+rows-ok-spec = tie.close (tie.spec Inv-loop μ-loop loop-holds (λ c κs. search needs) (λ c κs. search needs) (λ c. search needs) (λ c. search needs) loop-again returns)
