@@ -1,3 +1,3 @@
 -- The front of a certificate's check.
-pub mod Front
-pub mod Steps
+pub mod Marks
+pub mod Weighing

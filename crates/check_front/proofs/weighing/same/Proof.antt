@@ -1,5 +1,5 @@
 -- `same` meets its contract. Assumes nothing.
-use Rattle.check_front.specs.Steps.{same-number}
+use Rattle.check_front.specs.Weighing.{same-number}
 use Rattle.check_front.proofs.weighing.same.Statement.{statement}
 use Rattle.check_front.proofs.weighing.same.Tie as tie
 
