@@ -1,9 +1,9 @@
 -- What storing the front of a certificate leaves. Assumes nothing.
-use mathlib.Core.Path.{_≡_, ap, _∙_, subst}
+use mathlib.Core.Path.{_≡_, _∙_, subst}
 use mathlib.Core.Logic.{inl, ⊎-elim}
 use mathlib.Core.Bool.{true}
 use mathlib.Core.List.{List}
-use Prim.Native.Nat.{ℕ, _+_, _*_, _<_}
+use Prim.Native.Nat.{ℕ, _+_, _<_}
 use native.Mathlib.Omega.{arith}
 use native.Mathlib.Nat.{not-suc-le-zero}
 use borrow.Author.Count.{below-more}
@@ -11,7 +11,8 @@ use lib.ListN.{length, getD, set, length-set}
 use lib.Seq.{getD-set-same, getD-set-other}
 use lib.IntN.{ℤ}
 use Rattle.model.specs.Bytes.{byteAt, isMark, int32At}
-use Rattle.model.specs.Certificate.{headMark, partnerMark}
+use Rattle.model.specs.Certificate.{headMark, partnerMark, partnerAt}
+use Rattle.model.specs.Lengths.{headLength, partnerLength}
 use Rattle.put.specs.Kept.{Kept, kept-none, kept-wide, kept-both, kept-then, kept-byte, kept-number, kept-mark}
 use Rattle.put.specs.Puts.{MarkPut, NumberPut}
 
@@ -35,26 +36,26 @@ pub record HeadPut (n m : ℕ) (w : ℤ) (z z′ : List ℕ) : Type 0 where
   pub n-is : byteAt z′ 2 ≡ n
   pub m-is : byteAt z′ 3 ≡ m
   pub weighs : int32At z′ 4 ≡ w
-  pub kept : Kept 0 8 z z′
+  pub kept : Kept 0 headLength z z′
 
 pub record PartnerPut (k p : ℕ) (z z′ : List ℕ) : Type 0 where
   pub mark : isMark z′ k partnerMark ≡ true
   pub partner : byteAt z′ (k + 2) ≡ p
-  pub kept : Kept k (k + 3) z z′
+  pub kept : Kept k (k + partnerLength) z z′
 
 pub record PartnersPut (n : ℕ) (p z z′ : List ℕ) : Type 0 where
-  pub marks : (u : ℕ) → u < n → isMark z′ (8 + 3 * u) partnerMark ≡ true
-  pub partners : (u : ℕ) → u < n → byteAt z′ (10 + 3 * u) ≡ getD p u 0
-  pub kept : Kept 8 (8 + 3 * n) z z′
+  pub marks : (u : ℕ) → u < n → isMark z′ (partnerAt u) partnerMark ≡ true
+  pub partners : (u : ℕ) → u < n → byteAt z′ (partnerAt u + 2) ≡ getD p u 0
+  pub kept : Kept headLength (partnerAt n) z z′
 
 pub record FrontPut (n m : ℕ) (w : ℤ) (p z z′ : List ℕ) : Type 0 where
   pub head : isMark z′ 0 headMark ≡ true
   pub n-is : byteAt z′ 2 ≡ n
   pub m-is : byteAt z′ 3 ≡ m
   pub weighs : int32At z′ 4 ≡ w
-  pub marks : (u : ℕ) → u < n → isMark z′ (8 + 3 * u) partnerMark ≡ true
-  pub partners : (u : ℕ) → u < n → byteAt z′ (10 + 3 * u) ≡ getD p u 0
-  pub kept : Kept 0 (8 + 3 * n) z z′
+  pub marks : (u : ℕ) → u < n → isMark z′ (partnerAt u) partnerMark ≡ true
+  pub partners : (u : ℕ) → u < n → byteAt z′ (partnerAt u + 2) ≡ getD p u 0
+  pub kept : Kept 0 (partnerAt n) z z′
 
 pub head-put : {n m : ℕ} {w : ℤ} {z0 z1 z2 z3 z4 : List ℕ} → MarkPut 0 headMark z0 z1 → BytePut 2 n z1 z2 → BytePut 3 m z2 z3 → NumberPut 4 w z3 z4 → HeadPut n m w z0 z4
 head-put M N B W =
@@ -75,17 +76,18 @@ partner-put {k} M B =
     }
 
 pub partners-none : (p z : List ℕ) → PartnersPut 0 p z z
-partners-none p z = record { marks = λ u h. absurd (not-suc-le-zero h); partners = λ u h. absurd (not-suc-le-zero h); kept = kept-none 8 (8 + 3 * 0) z }
+partners-none p z = record { marks = λ u h. absurd (not-suc-le-zero h); partners = λ u h. absurd (not-suc-le-zero h); kept = kept-none headLength (partnerAt 0) z }
 
-pub partners-more : {i : ℕ} {p z y x : List ℕ} → PartnersPut i p z y → PartnerPut (8 + 3 * i) (getD p i 0) y x → PartnersPut (i + 1) p z x
-partners-more {i} {p} {z} {y} {x} R N =
+pub partners-more : {at i : ℕ} {p z y x : List ℕ} → at ≡ partnerAt i → PartnersPut i p z y → PartnerPut at (getD p i 0) y x → PartnersPut (i + 1) p z x
+partners-more {at} {i} {p} {z} {y} {x} e R M =
+    let N : PartnerPut (partnerAt i) (getD p i 0) y x = rw e at M in
     record {
-      marks = below-more (λ (u : ℕ). isMark x (8 + 3 * u) partnerMark ≡ true) i (λ u h. kept-mark (N .kept) (8 + 3 * u) partnerMark (inl (omega arith)) ∙ R .marks u h) (N .mark);
+      marks = below-more (λ (u : ℕ). isMark x (partnerAt u) partnerMark ≡ true) i (λ u h. kept-mark (N .kept) (partnerAt u) partnerMark (inl (omega arith)) ∙ R .marks u h) (N .mark);
       partners = below-more
-          (λ (u : ℕ). byteAt x (10 + 3 * u) ≡ getD p u 0)
+          (λ (u : ℕ). byteAt x (partnerAt u + 2) ≡ getD p u 0)
           i
-          (λ u h. kept-byte (N .kept) (10 + 3 * u) (inl (omega arith)) ∙ R .partners u h)
-          (ap (λ (k : ℕ). byteAt x k) (let e : 10 + 3 * i ≡ 8 + 3 * i + 2 = omega arith in e) ∙ N .partner);
+          (λ u h. kept-byte (N .kept) (partnerAt u + 2) (inl (omega arith)) ∙ R .partners u h)
+          (N .partner);
       kept = kept-both (kept-wide (omega arith) (omega arith) (R .kept)) (kept-wide (omega arith) (omega arith) (N .kept));
     }
 

@@ -13,6 +13,7 @@ use lib.IntN.{ℤ, pos}
 use mir.Syntax.{w32}
 use mir.Val.{SFits}
 use Rattle.foundations.specs.Tests.{eqb-same}
+use Rattle.model.specs.Lengths.{subproblemLength}
 use Rattle.model.specs.Limits.{degreeLimit, dualLimit}
 use Rattle.model.specs.Bytes.{isMark, int32At, putInt32}
 use Rattle.model.specs.Certificate.{recordMark}
@@ -42,7 +43,7 @@ pub record RecordPut (k : ℕ) (w : ℤ) (y : List ℕ) (n : ℕ) (x : List ℕ)
   pub value : int32At z′ (k + 2) ≡ w
   pub ofChild : (i : ℕ) → i < n → int32At z′ (k + 6 + 4 * i) ≡ pos (getD y i 0)
   pub ofOther : (j : ℕ) → j < l → int32At z′ (k + 6 + 4 * n + 4 * j) ≡ pos (getD x j 0)
-  pub kept : Kept k (k + 6 + 4 * n + 4 * l) z z′
+  pub kept : Kept k (k + subproblemLength n l) z z′
 
 pub mark-put : (k : ℕ) (m z : List ℕ) → k + 2 ≤ length z → MarkPut k m z (set (set z k (getD m 0 0)) (k + 1) (getD m 1 0))
 mark-put k m z h =

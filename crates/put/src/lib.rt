@@ -6,6 +6,7 @@ use model::WideRow;
 ghost use Prim.Native.Nat.{_+_, _*_, _≤_};
 ghost use lib.IntN.{pos};
 ghost use lib.ListN.{length};
+ghost use Rattle.model.specs.Lengths.{subproblemLength};
 ghost use Rattle.model.specs.Limits.{dualLimit};
 ghost use Rattle.put.specs.Puts.{Fit, MarkPut, NumberPut, RowPut, RecordPut};
 
@@ -58,7 +59,7 @@ pub fn put_record(
     neighbours: &WideRow,
     l: usize,
 )
-    requires { ⌜ at + 6 + 4 * k + 4 * l ≤ length (now d) ⌝ }
+    requires { ⌜ at + subproblemLength k l ≤ length (now d) ⌝ }
     requires { ⌜ Fit (now children) k ⌝ }
     requires { ⌜ Fit (now neighbours) l ⌝ }
     ensures { λ _. ⌜ RecordPut at w (now (children .entry)) k (now (neighbours .entry)) l (now (d .entry)) (now (d .exit)) ⌝ }

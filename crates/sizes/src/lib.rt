@@ -3,6 +3,9 @@
 use formats::inputs::input_item;
 use formats::tree::degrees;
 use formats::tree::vertex_count;
+use lengths::head;
+use lengths::partner;
+use lengths::subproblem;
 use model::SizesAnswer;
 use plan::counts::subproblem_count;
 use plan::counts::width_of;
@@ -31,7 +34,7 @@ fn square_sum(found: &[u8]) -> usize
     sum
 }
 
-// The length of a certificate of the two trees.
+// The length of a certificate of the two trees: the head, the partners, the records without their duals, and 4 bytes for each dual.
 fn certificate_length(recorded: &[u8], found: &[u8]) -> usize
     requires { ⌜ Sound (now recorded) ⌝ }
     requires { ⌜ Sound (now found) ⌝ }
@@ -41,7 +44,7 @@ fn certificate_length(recorded: &[u8], found: &[u8]) -> usize
     let all = subproblem_count(recorded, found);
     let width = width_of(found);
     let squares = square_sum(found);
-    8 + 3 * n + 6 * all + 4 * ((n - 1) * width) + 4 * (n * squares)
+    head() + partner() * n + subproblem(0, 0) * all + 4 * ((n - 1) * width) + 4 * (n * squares)
 }
 
 // Entry point.

@@ -1,13 +1,13 @@
 -- What solving and writing leaves: the values, and a certificate that the check accepts. Assumes nothing.
 use mathlib.Core.Path.{_≡_, refl, ap, _∙_}
 use mathlib.Core.List.{List, _++_}
-use Prim.Native.Nat.{ℕ, _+_, _*_, _≤_, _<_}
+use Prim.Native.Nat.{ℕ, _≤_, _<_}
 use native.Mathlib.Omega.{arith}
 use lib.ListN.{length, take, drop, length-append, length-take}
 use lib.Seq.{take-at}
 use lib.IntN.{ℤ}
 use Rattle.model.specs.Calls.{inputItem}
-use Rattle.model.specs.Certificate.{certificateLength, recordAt, weightIn, mappingIn, valueIn, checkOf}
+use Rattle.model.specs.Certificate.{certificateLength, partnerAt, recordAt, weightIn, mappingIn, valueIn, checkOf}
 use Rattle.model.specs.Order.{subproblems}
 use Rattle.model.specs.Tree.{count}
 use Rattle.model.specs.Mapping.{Heaviest}
@@ -42,7 +42,7 @@ solved-full {table} {r} {f} {work} passes S =
     record { enough = rw (S .filled) (simp length-append (omega arith)); filled = ap (λ (y : List ℤ). take (subproblems r f) y) (S .filled) ∙ take-at (values table r f) (drop (subproblems r f) work) (subproblems r f) v }
 
 -- there is room for the front
-pub front-room : (table r f : List ℕ) → inputItem table r f ≡ 0 → 8 + 3 * count r ≤ certificateLength r f
+pub front-room : (table r f : List ℕ) → inputItem table r f ≡ 0 → partnerAt (count r) ≤ certificateLength r f
 front-room table r f passes = rw (length-closed table r f passes) at (record-first r f (subproblems r f))
 
 module _ {table r f : List ℕ} {work : List ℤ} {m : List ℕ} {work′ : List ℤ} {m′ : List ℕ} {w : ℤ} {z y z′ : List ℕ} (passes : inputItem table r f ≡ 0)
@@ -51,14 +51,14 @@ module _ {table r f : List ℕ} {work : List ℤ} {m : List ℕ} {work′ : List
   end : recordAt r f (subproblems r f) ≡ certificateLength r f
   end = length-closed table r f passes
 
-  start : recordAt r f 0 ≡ 8 + 3 * count r
+  start : recordAt r f 0 ≡ partnerAt (count r)
   start = unfold recordAt in refl
 
   -- a mapping of the recorded vertices lies in the array
   enough : count r ≤ length m′
   enough = let e = S .heaviest .mapping .long in omega (arith, simp length-take at e)
 
-  ahead : 8 + 3 * count r ≤ certificateLength r f
+  ahead : partnerAt (count r) ≤ certificateLength r f
   ahead = front-room table r f passes
 
   kept : Kept 0 (certificateLength r f) z z′

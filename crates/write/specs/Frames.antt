@@ -9,9 +9,10 @@ use lib.ListN.{length, getD, set, length-set}
 use lib.Seq.{getD-set-same, getD-set-other}
 use lib.IntN.{ℤ, pos}
 use Rattle.foundations.specs.Tests.{same?}
+use Rattle.model.specs.Lengths.{subproblemLength}
 use Rattle.model.specs.Limits.{degreeLimit, dualLimit}
 use Rattle.model.specs.Graph.{neighbours}
-use Rattle.model.specs.Certificate.{headMark, partnerMark, recordMark, others, recordAt, recordLength, valueIn, childDual, otherDual}
+use Rattle.model.specs.Certificate.{headMark, partnerMark, recordMark, partnerAt, others, recordAt, recordLength, valueIn, childDual, otherDual}
 use Rattle.model.specs.Order.{children, uAt}
 use Rattle.model.specs.Tree.{count}
 use Rattle.records.specs.Others.{othersOf, columnIn, others-few, OthersAt, others-stand}
@@ -33,15 +34,15 @@ front-as {n} {m} {n′} {m′} {v} {w} {p} {z} {z′} a b c F =
 pub front-weighs : {r f : List ℕ} {v w : ℤ} {p z : List ℕ} → v ≡ w → FrontLeft r f z p v → FrontLeft r f z p w
 front-weighs e F = record { head = F .head; n-is = F .n-is; m-is = F .m-is; weighs = F .weighs ∙ e; marks = F .marks; partners = F .partners }
 
-pub front-same : {r f : List ℕ} {w : ℤ} {p z z′ : List ℕ} → Alike 0 (8 + 3 * count r) z z′ → FrontLeft r f z p w → FrontLeft r f z′ p w
+pub front-same : {r f : List ℕ} {w : ℤ} {p z z′ : List ℕ} → Alike 0 (partnerAt (count r)) z z′ → FrontLeft r f z p w → FrontLeft r f z′ p w
 front-same A F =
     record {
       head = alike-mark A 0 (omega arith) headMark (omega arith) ∙ F .head;
       n-is = alike-byte A 2 (omega arith) (omega arith) ∙ F .n-is;
       m-is = alike-byte A 3 (omega arith) (omega arith) ∙ F .m-is;
       weighs = alike-number A 4 (omega arith) (omega arith) ∙ F .weighs;
-      marks = λ u h. alike-mark A (8 + 3 * u) (omega arith) partnerMark (omega arith) ∙ F .marks u h;
-      partners = λ u h. alike-byte A (10 + 3 * u) (omega arith) (omega arith) ∙ F .partners u h;
+      marks = λ u h. alike-mark A (partnerAt u) (omega arith) partnerMark (omega arith) ∙ F .marks u h;
+      partners = λ u h. alike-byte A (partnerAt u + 2) (omega arith) (omega arith) ∙ F .partners u h;
     }
 
 -- ---- a record
@@ -91,7 +92,9 @@ pub record OneFits (y x : List ℕ) (k d q : ℕ) : Type 0 where
   pub child-low : (i : ℕ) → i < k → getD y i 0 ≤ dualLimit
   pub neighbour-low : (j : ℕ) → j < d → getD x j 0 ≤ dualLimit
 
-pub record OnePut (here : ℕ) (w : ℤ) (y : List ℕ) (k : ℕ) (x : List ℕ) (d q : ℕ) (z z′ : List ℕ) : Type 0 where
+-- the record at `here`, which ends at `next`
+pub record OnePut (here : ℕ) (w : ℤ) (y : List ℕ) (k : ℕ) (x : List ℕ) (d q : ℕ) (z z′ : List ℕ) (next : ℕ) : Type 0 where
+  pub ends : next ≡ here + subproblemLength k (othersOf d q)
   pub row : List ℕ
   pub others-in : OthersRow (othersOf d q) q x row
   pub stored : RecordPut here w y k row (othersOf d q) z z′
@@ -106,12 +109,12 @@ module _ {y x : List ℕ} {k d q : ℕ} (F : OneFits y x k d q) where
       let b = F .degree in
       record { few = omega arith; low = λ j h. rw (R .get j h) (F .neighbour-low (columnIn q j) (F .inside j (omega arith))) }
 
-pub one-put : {here l : ℕ} {v w : ℤ} {y : List ℕ} {k : ℕ} {x row : List ℕ} {d q : ℕ} {z z′ : List ℕ} → l ≡ othersOf d q → v ≡ w → OthersRow l q x row → RecordPut here v y k row l z z′ → OnePut here w y k x d q z z′
-one-put {row = row} e g R B = record { row = row; others-in = rw e at R; stored = rw (e, g) at B }
+pub one-put : {here l : ℕ} {v w : ℤ} {y : List ℕ} {k : ℕ} {x row : List ℕ} {d q : ℕ} {z z′ : List ℕ} {next : ℕ} → l ≡ othersOf d q → v ≡ w → next ≡ here + subproblemLength k l → OthersRow l q x row → RecordPut here v y k row l z z′ → OnePut here w y k x d q z z′ next
+one-put {row = row} e g n R B = record { ends = rw e at n; row = row; others-in = rw e at R; stored = rw (e, g) at B }
 
 -- the record that was stored for subproblem k
-module _ {table r f : List ℕ} {work : List ℤ} {z z′ : List ℕ} {k u v q s here : ℕ} {w : ℤ} {y x : List ℕ} {c d : ℕ}
-    (P : NumberAt r f u v s k) (O : OthersAt f v q s) (D : DualsAt table r f work u v s y x) (B : OnePut here w y c x d q z z′)
+module _ {table r f : List ℕ} {work : List ℤ} {z z′ : List ℕ} {k u v q s here next : ℕ} {w : ℤ} {y x : List ℕ} {c d : ℕ}
+    (P : NumberAt r f u v s k) (O : OthersAt f v q s) (D : DualsAt table r f work u v s y x) (B : OnePut here w y c x d q z z′ next)
     (begins : here ≡ recordAt r f k) (children-are : c ≡ length (children r u)) (degree-is : d ≡ length (neighbours f v)) (value-is : w ≡ getD work k (pos 0)) where
   others-are : othersOf d q ≡ length (others f v s)
   others-are = rw degree-is (sym (O .number))
@@ -131,8 +134,8 @@ module _ {table r f : List ℕ} {work : List ℤ} {z z′ : List ℕ} {k u v q s
             B .stored .ofOther j (omega arith) ∙ ap pos (B .others-in .get j (omega arith) ∙ ap (λ (m : ℕ). getD x m 0) (sym (others-stand O j h))));
       }
 
+  pub record-ends : here + subproblemLength c (othersOf d q) ≡ recordAt r f k + recordLength r f k
+  record-ends = rw (P .long, begins, children-are, others-are)
+
   pub record-kept : Kept (recordAt r f k) (recordAt r f k + recordLength r f k) z z′
-  record-kept =
-      let o = others-are in
-      let e : here + 6 + 4 * c + 4 * othersOf d q ≡ recordAt r f k + recordLength r f k = rw (P .long, ← begins, ← children-are, ← o) (omega arith) in
-      rw (← e, ← begins) (B .stored .kept)
+  record-kept = rw (← record-ends, ← begins) (B .stored .kept)

@@ -11,7 +11,6 @@ use plan::Blocks;
 use plan::Plan;
 use planning::make;
 use put::front::put_front;
-use records::Places;
 use records::begin;
 use records::places_of;
 ghost use Prim.Native.Nat.{_≤_};
@@ -19,7 +18,6 @@ ghost use lib.ListN.{length};
 ghost use Rattle.model.specs.Certificate.{certificateLength};
 ghost use Rattle.model.specs.Writing.{WriteCall};
 ghost use Rattle.plan.specs.Plan.{Ready, Lent};
-ghost use Rattle.records.specs.Places.{Laid};
 ghost use Rattle.write.specs.Call.{Left};
 
 // Solves every subproblem, reads a heaviest mapping out, and writes the certificate.
@@ -28,12 +26,10 @@ fn solve_and_write(
     recorded: &[u8],
     found: &[u8],
     plan: &Plan,
-    places: &Places,
     work: &mut [i32],
     certificate: &mut [u8],
 )
     requires { ⌜ Ready (now table) (now recorded) (now found) (now plan) ⌝ }
-    requires { ⌜ Laid (now recorded) (now found) (now plan) (now places) ⌝ }
     requires { ⌜ Lent (now recorded) (now found) (now work) ⌝ }
     requires { ⌜ certificateLength (now recorded) (now found) ≤ length (now certificate) ⌝ }
     ensures { λ _. ⌜ Left (now (table .entry)) (now (recorded .entry)) (now (found .entry)) (now (work .entry)) (now (certificate .entry)) (now (work .exit)) (now (certificate .exit)) ⌝ }
@@ -43,7 +39,7 @@ fn solve_and_write(
     let n = vertex_count(recorded);
     let m = vertex_count(found);
     put_front(certificate, n, m, w, &mapping);
-    put_records(table, recorded, found, plan, places, work, certificate);
+    put_records(table, recorded, found, plan, work, certificate);
 }
 
 // Entry point.
@@ -70,7 +66,7 @@ pub fn write_certificate(
     if certificate.len() < l {
         return WriteAnswer::Refused(19);
     }
-    solve_and_write(table, recorded, found, &plan, &places, work, certificate);
+    solve_and_write(table, recorded, found, &plan, work, certificate);
     let length = l as u32;
     WriteAnswer::Written(length)
 }

@@ -9,46 +9,37 @@ use borrow.Author.Needs.{needs}
 use Rattle.sizes.proofs.certificate_length.Statement.{statement}
 use Rattle.sizes.proofs.certificate_length.Tie as tie
 
-vertex-count-requires : tie.Need-vertex-count-requires
-vertex-count-requires c κs = search needs
-
 -- the sum, and that it is small
-whole : (c : tie.After-square-sum) →
-    let at-width = c .before in
+whole : (c : tie.After-subproblem) →
+    let at-partner = c .before in
+    let at-head = at-partner .before in
+    let at-squares = at-head .before in
+    let at-width = at-squares .before in
     let at-count = at-width .before in
     let at-vertices = at-count .before in
     let a = at-vertices .before .before .before .args in
     let n = at-vertices .vertex-count .result in
-    let all = at-count .subproblem-count .result in
-    let w = at-width .width-of .result in
-    let q = c .square-sum .result in
-    (8 + 3 * n + 6 * all + 4 * ((n - 1) * w) + 4 * (n * q) ≡ certificateLength (a .recorded .now) (a .found .now)) × (certificateLength (a .recorded .now) (a .found .now) ≤ certificateLimit)
+    let h = at-head .head .result in
+    let p = at-partner .partner .result in
+    let s = c .subproblem .result in
+    (h + p * n + s * at-count .subproblem-count .result + 4 * ((n - 1) * at-width .width-of .result) + 4 * (n * at-squares .square-sum .result) ≡ certificateLength (a .recorded .now) (a .found .now)) × (certificateLength (a .recorded .now) (a .found .now) ≤ certificateLimit)
 whole c =
-    let at-width = c .before in
+    let at-partner = c .before in
+    let at-head = at-partner .before in
+    let at-squares = at-head .before in
+    let at-width = at-squares .before in
     let at-count = at-width .before in
     let at-vertices = at-count .before in
     let s = at-vertices .before .before .before in (
-      length-parts (s .args .recorded .now) (s .args .found .now) (at-vertices .vertex-count .ensures) (at-count .subproblem-count .ensures .0) (at-width .width-of .ensures .0) (c .square-sum .ensures .0),
+      rw (at-head .head .ensures, at-partner .partner .ensures, c .subproblem .ensures) (length-parts (s .args .recorded .now) (s .args .found .now) (at-vertices .vertex-count .ensures) (at-count .subproblem-count .ensures .0) (at-width .width-of .ensures .0) (at-squares .square-sum .ensures .0)),
       length-low (s .pre .0) (s .pre .1),
     )
 
-mul-result-3 : tie.Need-mul-result-3
-mul-result-3 c = let h = whole c in omega arith
+mul-result : tie.Need-mul-result
+mul-result c = rw (c .partner .ensures) (search needs)
 
-mul-result-4 : tie.Need-mul-result-4
-mul-result-4 c = let h = whole c in omega arith
-
-add-result-3 : tie.Need-add-result-3
-add-result-3 c = let h = whole c in omega arith
-
-mul-result-5 : tie.Need-mul-result-5
-mul-result-5 c = let h = whole c in omega arith
-
-mul-result-6 : tie.Need-mul-result-6
-mul-result-6 c = let h = whole c in omega arith
-
-add-result-4 : tie.Need-add-result-4
-add-result-4 c = let h = whole c in omega arith
+add-result : tie.Need-add-result
+add-result c = rw (c .partner .ensures) (search needs)
 
 returns : tie.Need-returns
 returns c = let h = whole c in (h .0, rw (h .0) (h .1))
@@ -57,19 +48,22 @@ pub certificate-length-spec : {M : Type 1} → statement M
 certificate-length-spec =
     tie.close
     (tie.spec
-    vertex-count-requires
     (λ c κs. search needs)
     (λ c κs. search needs)
     (λ c κs. search needs)
+    (λ c κs. search needs)
+    (λ c κs. search needs)
+    (λ c κs. search needs)
+    mul-result
+    add-result
+    (λ c κs. search needs)
+    (λ c. let h = whole c in omega arith)
+    (λ c. let h = whole c in omega arith)
     (λ c. search needs)
-    (λ c. search needs)
-    (λ c. search needs)
-    (λ c. search needs)
-    (λ c. search needs)
-    mul-result-3
-    mul-result-4
-    add-result-3
-    mul-result-5
-    mul-result-6
-    add-result-4
+    (λ c. let h = whole c in omega arith)
+    (λ c. let h = whole c in omega arith)
+    (λ c. let h = whole c in omega arith)
+    (λ c. let h = whole c in omega arith)
+    (λ c. let h = whole c in omega arith)
+    (λ c. let h = whole c in omega arith)
     returns)

@@ -11,13 +11,10 @@ use borrow.Author.Needs.{needs}
 use Rattle.write.proofs.solve_and_write.Statement.{statement}
 use Rattle.write.proofs.solve_and_write.Tie as tie
 
-slice-aggregate-solve-and-read : tie.Need-slice-aggregate-solve-and-read
-slice-aggregate-solve-and-read c = search needs
-
 solve-and-read-requires : tie.Need-solve-and-read-requires
 solve-and-read-requires c κs =
     let p = c .before .before .before .before .before .before .pre in
-    (p .0, (p .1 .1 .0, inputs-few (ready-inputs (p .0)) .0))
+    (p .0, (p .1 .0, inputs-few (ready-inputs (p .0)) .0))
 
 vertex-count-requires : tie.Need-vertex-count-requires
 vertex-count-requires c κs = whole (ready-recorded (c .before .before .before .before .before .before .before .before .before .pre .0) .passed .ends)
@@ -32,15 +29,15 @@ put-front-requires c κs =
     let h = front-room _ _ _ (p .0 .passes) in
     let a = c .before .before .before .vertex-count .ensures in
     let b = c .before .before .vertex-count2 .ensures in
-    let e = p .1 .1 .1 in
+    let e = p .1 .1 in
     (omega arith, (omega (arith, few .0), omega (arith, few .1)))
 
 put-records-requires : tie.Need-put-records-requires
 put-records-requires c κs =
     let p = c .before .before .before .before .before .before .before .before .before .before .before .before .before .before .before .before .before .before .pre in
-    let e = p .1 .1 .1 in
+    let e = p .1 .1 in
     let q = c .before .before .before .before .put-front .ensures .kept .size in
-    (p .0, (p .1 .0, (solved-full (p .0 .passes) (c .before .before .before .before .before .before .before .before .before .before .before .solve-and-read .ensures), omega arith)))
+    (p .0, (solved-full (p .0 .passes) (c .before .before .before .before .before .before .before .before .before .before .before .solve-and-read .ensures), omega arith))
 
 same-length-2 : tie.Need-same-length-2
 same-length-2 c = c .before .before .put-records .ensures .kept .size ∙ c .before .before .before .before .before .before .before .put-front .ensures .kept .size
@@ -52,13 +49,13 @@ returns c =
     let p = at-solve .before .before .before .before .before .before .before .pre in
     let S = at-solve .solve-and-read .ensures in
     let F = front-as (at-front .before .before .before .before .vertex-count .ensures) (at-front .before .before .before .vertex-count2 .ensures) (back {z = at-solve .solve-and-read .result} (at-solve .solve-and-read .ok)) (at-front .put-front .ensures) in
-    written-left (p .0 .passes) S F (solved-full (p .0 .passes) S) (c .before .before .put-records .ensures) (p .1 .1 .1)
+    written-left (p .0 .passes) S F (solved-full (p .0 .passes) S) (c .before .before .put-records .ensures) (p .1 .1)
 
 pub solve-and-write-spec : {M : Type 1} → statement M
 solve-and-write-spec =
     tie.close
     (tie.spec
-    slice-aggregate-solve-and-read
+    (λ c. search needs)
     solve-and-read-requires
     vertex-count-requires
     vertex-count-requires-2

@@ -72,22 +72,22 @@ returns-2 c =
 
 solve-and-write-requires : tie.Need-solve-and-write-requires
 solve-and-write-requires c κs =
-    let at-begin = c .before .before .before .before .before in
+    let at-begin = c .before .before .before .before in
     let at-make = at-begin .before .before .before .before .before .before in
-    (ready at-make, (at-begin .before .before .before .places-of .ensures, (record { enough = passed (at-make .before .before) .1 }, (let l = long at-begin in omega (arith, c .before .before .before .before .if2 .left)))))
+    (ready at-make, (record { enough = passed (at-make .before .before) .1 }, (let l = long at-begin in omega (arith, c .before .before .before .if2 .left))))
 
 cast-length : tie.Need-cast-length
 cast-length c =
-    let at-begin = c .before .before .before .before .before .before .before .before .before in
+    let at-begin = c .before .before .before .before .before .before .before .before in
     omega (arith, long at-begin, inputs-length (ready-inputs (ready (at-begin .before .before .before .before .before .before))))
 
 returns-3 : tie.Need-returns-3
 returns-3 c =
-    let at-begin = c .before .before .before .before .before .before .before .before .before in
+    let at-begin = c .before .before .before .before .before .before .before .before in
     let e = at-begin .before .before .before .before .before .before .before .before in
     let a = e .before .before .before .before .before .before .before .args in
     let s = c .before .before .before .solve-and-write .ensures in
-    let w = write-none (a .table .now) (a .recorded .now) (a .found .now) (a .work .now) (a .certificate .now) (zero e) (let l = long at-begin in omega (arith, c .before .before .before .before .before .before .before .before .if2 .left)) in
+    let w = write-none (a .table .now) (a .recorded .now) (a .found .now) (a .work .now) (a .certificate .now) (zero e) (let l = long at-begin in omega (arith, c .before .before .before .before .before .before .before .if2 .left)) in
     let g = ap Written (long at-begin) in
     record {
       refused = λ n. absurd (n w);
