@@ -25,7 +25,7 @@ use Rattle.model.specs.Pairs.{vertexPair, edgePair}
 use Rattle.model.specs.Mapping.{weight, Heaviest}
 use Rattle.model.specs.Values.{branch, valueFrom, Subproblem, Solves, value, values, number, recalled, largest, answer}
 use Rattle.model.specs.Calls.{inputItem}
-use Rattle.model.specs.Certificate.{headMark, partnerMark, recordMark, certificateLength, others, recordAt, weightIn, mappingIn, valueIn, childDual, otherDual, valueOf, eqZ, atMost, shapeOk, forbiddenOk, coverOk, dualsOk, pairOk, subproblemOk, checkOf}
+use Rattle.model.specs.Certificate.{headMark, partnerMark, recordMark, partnerAt, certificateLength, others, recordAt, weightIn, mappingIn, valueIn, childDual, otherDual, valueOf, eqZ, atMost, shapeOk, forbiddenOk, coverOk, dualsOk, pairOk, subproblemOk, checkOf}
 use Rattle.trees.specs.Neighbours.{once-neighbours}
 use Rattle.formats.specs.Inputs.{Accepted, input-accepted}
 use Rattle.subtrees.specs.Filling.{sub-here, index-low-at, branch-sub}
@@ -179,7 +179,7 @@ first-bytes p (suc n) h = ap (λ (x : List ℕ). x ++ (getD p n 0 ∷ [])) (firs
 
 left-mapping : (r f z p : List ℕ) (w : ℤ) → count r ≤ length p → FrontLeft r f z p w → mappingIn r z ≡ take (count r) p
 unfolding mappingIn
-left-mapping r f z p w h F = tab-ext (λ u. byteAt z (10 + 3 * u)) (λ u. getD p u 0) (count r) (F .partners) ∙ first-bytes p (count r) h
+left-mapping r f z p w h F = tab-ext (λ u. byteAt z (partnerAt u + 2)) (λ u. getD p u 0) (count r) (F .partners) ∙ first-bytes p (count r) h
 
 left-shape : (r f z p : List ℕ) (w : ℤ) → length z ≡ certificateLength r f → FrontLeft r f z p w → ((k : ℕ) → k < subproblems r f → isMark z (recordAt r f k) recordMark ≡ true) → shapeOk r f z ≡ true
 unfolding shapeOk
@@ -188,7 +188,7 @@ left-shape r f z p w long F marks =
     (and-both (isMark z 0 headMark) _ (F .head)
     (and-both (eqb (byteAt z 2) (count r)) _ (eq-eqb (byteAt z 2) (count r) (F .n-is))
     (and-both (eqb (byteAt z 3) (count f)) _ (eq-eqb (byteAt z 3) (count f) (F .m-is))
-    (and-both (every (λ u. isMark z (8 + 3 * u) partnerMark) (count r)) _ (every-all (λ u. isMark z (8 + 3 * u) partnerMark) (count r) (F .marks))
+    (and-both (every (λ u. isMark z (partnerAt u) partnerMark) (count r)) _ (every-all (λ u. isMark z (partnerAt u) partnerMark) (count r) (F .marks))
     (every-all (λ k. isMark z (recordAt r f k) recordMark) (subproblems r f) marks)))))
 
 pub left-accepted : (table r f : List ℕ) → inputItem table r f ≡ 0 → (work : List ℤ) → take (subproblems r f) work ≡ values table r f → (p z : List ℕ) → Heaviest table r f (take (count r) p) → weight table r f (take (count r) p) ≡ answer table r f → count r ≤ length p → length z ≡ certificateLength r f → FrontLeft r f z p (answer table r f) → ((k : ℕ) → k < subproblems r f → RecordLeft table r f work z k) → checkOf table r f z ≡ 0

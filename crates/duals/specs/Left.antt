@@ -16,7 +16,7 @@ use Rattle.model.specs.Graph.{neighbours}
 use Rattle.model.specs.Order.{children, uAt, vAt, sAt}
 use Rattle.model.specs.Pairs.{vertexPair}
 use Rattle.model.specs.Values.{branch, valueFrom, recalled}
-use Rattle.model.specs.Certificate.{headMark, partnerMark, recordMark, others, recordAt, weightIn, valueIn, childDual, otherDual, atMost}
+use Rattle.model.specs.Certificate.{headMark, partnerMark, recordMark, partnerAt, others, recordAt, weightIn, valueIn, childDual, otherDual, atMost}
 
 -- Duals of subproblem (u, v, s) over the work numbers: y of u's children and z of v's neighbours, each in its place. The dual of s is 0, so that
 -- the sum over all neighbours is that over the others.
@@ -43,5 +43,5 @@ pub record FrontLeft (r f z p : List ℕ) (w : ℤ) : Type 0 where
   pub n-is : byteAt z 2 ≡ count r
   pub m-is : byteAt z 3 ≡ count f
   pub weighs : weightIn z ≡ w
-  pub marks : (u : ℕ) → u < count r → isMark z (8 + 3 * u) partnerMark ≡ true
-  pub partners : (u : ℕ) → u < count r → byteAt z (10 + 3 * u) ≡ getD p u 0
+  pub marks : (u : ℕ) → u < count r → isMark z (partnerAt u) partnerMark ≡ true
+  pub partners : (u : ℕ) → u < count r → byteAt z (partnerAt u + 2) ≡ getD p u 0
