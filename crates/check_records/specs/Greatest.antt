@@ -1,15 +1,17 @@
--- The greater of 0 and the largest recorded value with s = v, vertex by vertex, is the model's. Assumes nothing.
+-- Item 24: the greater of 0 and the largest recorded value with s = v, vertex by vertex, is the model's. Assumes nothing.
 use mathlib.Core.Path.{_≡_, refl, sym, ap, _∙_}
 use mathlib.Core.Bool.{Bool, true, false, cond}
 use mathlib.Core.List.{List, [], _∷_, _++_}
 use Prim.Native.Nat.{ℕ, zero, suc, _+_, _*_, _≤_, _<_, max}
 use native.Mathlib.Omega.{arith}
 use native.Mathlib.Numerals.{add-one}
-use lib.IntN.{ℤ, pos, negsuc}
+use lib.ListN.{length}
+use lib.IntN.{ℤ, pos, negsuc, _+ℤ_}
 use lib.Signed.{leZ}
-use Rattle.foundations.specs.Int.{up, ints, canon}
+use Rattle.foundations.specs.Int.{up, int, ints, canon}
 use Rattle.foundations.specs.Lists.{below}
-use Rattle.model.specs.Certificate.{valueIn, valueOf}
+use Rattle.model.specs.Certificate.{certificateLength, valueIn, valueOf, eqZ}
+use Rattle.model.specs.Lengths.{headLength}
 use Rattle.model.specs.Mapping.{num}
 use Rattle.model.specs.Order.{width, offset, index}
 use Rattle.model.specs.Tree.{count}
@@ -126,3 +128,14 @@ module _ {r f : List ℕ} {plan places : List (List ℕ)} (L : Laid r f plan pla
   own-value z u v row b x y lu lv er eb ey ex =
       let n : row * width f + b ≡ index r f u v v = rw (er, eb, L .inputs .ready .planned .recorded u lu .place, L .inputs .ready .planned .found v lv .begins) (sym (index-own r f u v)) in
       ex ∙ up-weighed y ∙ ap (λ (t : ℤ). upW (weighed t)) (ey ∙ ap (valueIn r f z) n)
+
+-- ---- item 24's test
+
+-- the head is there
+pub long-head : (r f z : List ℕ) → length z ≡ certificateLength r f → headLength ≤ length z
+unfolding certificateLength
+long-head r f z e = omega arith
+
+-- a natural number as a sum
+pub zero-sum : (x y : ℤ) (w : ℕ) → y ≡ pos w → eqZ x (pos 0 +ℤ pos w) ≡ eqZ x y
+zero-sum x y w e = let s : pos 0 +ℤ pos w ≡ y = omega int in ap (eqZ x) s

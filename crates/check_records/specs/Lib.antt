@@ -2,5 +2,5 @@
 pub mod Rules
 pub mod Gains
 pub mod Records
+pub mod Walk
 pub mod Greatest
-pub mod Items

@@ -1,10 +1,13 @@
-//! The greater of 0 and the largest recorded value with s = v.
+//! Item 24: the greater of 0 and the largest recorded value with s = v.
 use crate::gains::value_in;
 use formats::tree::vertex_count;
 use integers::above_zero;
+use integers::int32_at;
 use plan::Plan;
 use plan::offset;
 use plan::place;
+use record_rules::numbers::is_sum;
+use record_rules::numbers::wide;
 use records::Places;
 use records::begin;
 use records::size;
@@ -12,7 +15,8 @@ ghost use Prim.Native.Nat.{_<_, max, _^_};
 ghost use mathlib.Core.Path.{_≡_};
 ghost use lib.ListN.{length};
 ghost use Rattle.model.specs.Tree.{count};
-ghost use Rattle.model.specs.Certificate.{certificateLength};
+ghost use Rattle.model.specs.Certificate.{certificateLength, weightIn, eqZ, valueOf};
+ghost use Rattle.model.specs.Values.{largest};
 ghost use Rattle.records.specs.Places.{Laid};
 ghost use Rattle.check_records.specs.Greatest.{most, ownMost};
 
@@ -64,13 +68,7 @@ fn top_of_row(
 }
 
 // Of all recorded vertices.
-pub(crate) fn greatest(
-    recorded: &[u8],
-    found: &[u8],
-    plan: &Plan,
-    places: &Places,
-    certificate: &[u8],
-) -> u32
+fn greatest(recorded: &[u8], found: &[u8], plan: &Plan, places: &Places, certificate: &[u8]) -> u32
     requires { ⌜ Laid (now recorded) (now found) (now plan) (now places) ⌝ }
     requires { ⌜ length (now certificate) ≡ certificateLength (now recorded) (now found) ⌝ }
     ensures { λ r. ⌜ (r ≡ most (ownMost (now (recorded .entry)) (now (found .entry)) (now (certificate .entry))) (count (now (recorded .entry)))) × (r < 2 ^ 31) ⌝ }
@@ -85,4 +83,20 @@ pub(crate) fn greatest(
         u += 1;
     }
     all
+}
+
+// The weight in the head is that number.
+pub fn is_greatest(
+    recorded: &[u8],
+    found: &[u8],
+    plan: &Plan,
+    places: &Places,
+    certificate: &[u8],
+) -> bool
+    requires { ⌜ Laid (now recorded) (now found) (now plan) (now places) ⌝ }
+    requires { ⌜ length (now certificate) ≡ certificateLength (now recorded) (now found) ⌝ }
+    ensures { λ r. ⌜ r ≡ eqZ (weightIn (now (certificate .entry))) (largest (now (recorded .entry)) (now (found .entry)) (valueOf (now (recorded .entry)) (now (found .entry)) (now (certificate .entry)))) ⌝ }
+{
+    let top = greatest(recorded, found, plan, places, certificate);
+    is_sum(int32_at(certificate, 4), 0, wide(top))
 }
