@@ -273,7 +273,38 @@ module _ (r f z : List ℕ) where
       let a : length (take (count r) p) ≡ count r = length-take-le (count r) p (omega arith) in
       ext-getD 0 _ _ (a ∙ sym (length-tab g (count r))) (λ u l. let t : u < count r = omega arith in getD-take (count r) p u 0 t ∙ N .get u t (omega arith) ∙ sym (getD-tab g (count r) u 0 t))
 
-  pub all-read : {plan : List (List ℕ)} {p : List ℕ} {at : ℕ} {m : Marks} → Inputs r f plan → length z ≡ certificateLength r f → Walked r f z at m → Noted r z p (m .number) → m .count ≡ m .number → AllRead r f p z (m .ok)
-  all-read {plan} {p} {at} {m} I e W N h =
-      let c : m .number ≡ count r + 1 + subproblems r f = sym h ∙ W .all in
-      record { shaped = W .seen ∙ rw c (marks-all e); partners = record { long = N .long; front = mapped-all p (m .number) (inputs-few I .0) (omega arith) N } }
+-- ---- the walk's invariant
+
+pub record Going (r f : List ℕ) (plan : List (List ℕ)) (p z : List ℕ) (at : ℕ) (m : Marks) : Type 0 where
+  pub inputs : Inputs r f plan
+  pub long : length z ≡ certificateLength r f
+  pub walked : Walked r f z at m
+  pub noted : Noted r z p (m .number)
+  pub upto : m .number ≤ m .count
+
+module _ {r f : List ℕ} {plan : List (List ℕ)} {p z : List ℕ} {at : ℕ} {m : Marks} where
+  pub going-first : Unread r f plan p z at m → Going r f plan p z at m
+  going-first U = record {
+    inputs = U .inputs;
+    long = U .long;
+    walked = walked-none z (U .head);
+    noted = rw (U .head .number) (noted-none r z p (U .room));
+    upto = rw (U .head .number) (omega arith);
+  }
+
+  pub going-reads : Going r f plan p z at m → m .number < m .count → Reading r f plan p z at m
+  going-reads G l = record { stepping = record { inputs = G .inputs; long = G .long; walked = G .walked; more = l }; noted = G .noted }
+
+  pub going-on : {p′ : List ℕ} {next : ℕ} {n : Marks} → Going r f plan p z at m → m .number < m .count → Passing r f p′ z m next n → Going r f plan p′ z next n
+  going-on G l P = record { inputs = G .inputs; long = G .long; walked = P .stepped .walked; noted = P .noted; upto = let a = P .stepped .number in let b = P .stepped .count in omega arith }
+
+  pub going-end : Going r f plan p z at m → m .count ≤ m .number → AllRead r f p z (m .ok)
+  going-end G h =
+      let u = G .upto in
+      let e : m .count ≡ m .number = omega arith in
+      let c : m .number ≡ count r + 1 + subproblems r f = sym e ∙ G .walked .all in
+      record { shaped = G .walked .seen ∙ rw c (marks-all r f z (G .long)); partners = record { long = G .noted .long; front = mapped-all r f z p (m .number) (inputs-few (G .inputs) .0) (omega arith) (G .noted) } }
+
+-- a step comes nearer to the end
+pub nearer : {r f p z : List ℕ} {m : Marks} {next : ℕ} {n : Marks} → m .number < m .count → Passing r f p z m next n → n .count - n .number < m .count - m .number
+nearer l P = let a = P .stepped .number in let b = P .stepped .count in omega arith

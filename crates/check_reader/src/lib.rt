@@ -1,11 +1,31 @@
-//! The certificate's check with one reader that carries the certificate along (paper 01, "The sheet"): thin functions over the plain ones on the bytes
-//! and a number, `check_front` and `check_records`. `check_certificate` takes byte buffers from C; an archive has its own crate's functions only, so that
-//! a C program finds it as `pensummer_check` (crates/pensummer).
-use check_front::check_front;
-use check_records::check_records;
+//! The certificate's check with a reader that carries the certificate along and goes from record to record (paper 01, "The sheet"): two walks, each a loop over
+//! a plain step on the bytes and a number, `mark_step` and `rule_step`. The items are tested in their order. `check_certificate` takes byte buffers from C;
+//! an archive has its own crate's functions only, so that a C program finds it as `pensummer_check` (crates/pensummer).
+use check_front::marks::MarkStep;
+use check_front::marks::mark_step;
+use check_front::marks::unread as unmarked;
+use check_front::weighing::mapping_item;
+use check_records::rules::RuleStep;
+use check_records::rules::rule_step;
+use check_records::rules::unread as unruled;
+use check_records::top::is_greatest;
+use formats::inputs::input_item;
+use formats::tree::vertex_count;
+use model::Gains;
+use model::Limits;
+use model::Mapping;
+use plan::Blocks;
+use plan::Plan;
+use planning::make;
+use records::Places;
+use records::begin;
+use records::places_of;
 ghost use mathlib.Core.Path.{_≡_};
-ghost use Rattle.model.specs.Certificate.{checkOf};
-ghost use Rattle.check_front.specs.Front.{FrontChecked};
+ghost use Rattle.foundations.specs.Lists.{every};
+ghost use Rattle.model.specs.Certificate.{subproblemOk, checkOf};
+ghost use Rattle.model.specs.Order.{subproblems};
+ghost use Rattle.check_front.specs.Marks.{Unread, AllRead};
+ghost use Rattle.check_records.specs.Walk.{Unread as Unruled};
 
 // A certificate and the place where the next of it is read.
 pub struct Reader<'a> {
@@ -13,59 +33,35 @@ pub struct Reader<'a> {
     pub at: usize,
 }
 
-// Reads the front from the certificate's start, and moves the reader on to its records (not where a table or tree is refused, so that nothing says
-// where they are): the refusal number, 0 where nothing refuses yet.
-fn front<'t, 'r, 'f, 's, 'a>(
-    table: &'t [u8],
+// The first walk, item 20: the head, partner by partner, record by record, whether each is as it must be. The partners are noted in p.
+fn marks<'r, 'f, 'p, 'm, 'a>(
     recorded: &'r [u8],
     found: &'f [u8],
-    reader: &'s mut Reader<'a>,
-) -> u32
-    requires { ⌜ now reader .at ≡ 0 ⌝ }
-    ensures { λ n. ⌜ (now (reader .exit) .certificate ≡ now (reader .entry) .certificate)
-        × FrontChecked (now (table .entry)) (now (recorded .entry)) (now (found .entry)) (now (now (reader .entry) .certificate)) n (now (reader .exit) .at) ⌝ }
-{
-    let p = check_front(table, recorded, found, reader.certificate, reader.at);
-    reader.at = p.next;
-    p.refusal
-}
-
-// Reads the records from where the reader stands, after the front: the refusal number, 0 for a certificate that is accepted.
-fn records<'t, 'r, 'f, 'a>(
-    table: &'t [u8],
-    recorded: &'r [u8],
-    found: &'f [u8],
-    reader: Reader<'a>,
-    refusal: u32,
-) -> u32
-    requires { ⌜ FrontChecked (now table) (now recorded) (now found) (now (reader .certificate)) refusal (reader .at) ⌝ }
-    ensures { λ n. ⌜ n ≡ checkOf (now (table .entry)) (now (recorded .entry)) (now (found .entry)) (now (reader .entry .certificate)) ⌝ }
-{
-    check_records(
-        table,
-        recorded,
-        found,
-        reader.certificate,
-        reader.at,
-        refusal,
-    )
-}
-
-// Entry point.
-// Checks a certificate: 0 for accepted, else the number of the item that refused it.
-#[no_mangle]
-pub extern "C" fn check_certificate(
-    table: &[u8],
-    recorded: &[u8],
-    found: &[u8],
-    certificate: &[u8],
-) -> u32
-    ensures { λ n. ⌜ n ≡ checkOf (now (table .entry)) (now (recorded .entry)) (now (found .entry)) (now (certificate .entry)) ⌝ }
+    plan: &'p Plan,
+    p: &'m mut Mapping,
+    certificate: &'a [u8],
+    from: MarkStep,
+) -> bool
+    requires { ⌜ Unread (now recorded) (now found) (now plan) (now p) (now certificate) (from .next) (from .marks) ⌝ }
+    ensures { λ ok. ⌜ AllRead (now (recorded .entry)) (now (found .entry)) (now (p .exit)) (now (certificate .entry)) ok ⌝ }
 {
     let mut reader = Reader {
         certificate: certificate,
-        at: 0,
+        at: from.next,
     };
-    let refusal = front(table, recorded, found, &mut reader);
-    records(table, recorded, found, reader, refusal)
+    let mut m = from.marks;
+    while m.number < m.count {
+        let s = mark_step(
+            recorded,
+            found,
+            plan,
+            p,
+            reader.certificate,
+            reader.at,
+            m,
+        );
+        reader.at = s.next;
+        m = s.marks;
+    }
+    m.ok
 }

@@ -3,7 +3,7 @@ use mathlib.Core.Path.{_≡_, refl, sym, ap, _∙_}
 use mathlib.Core.Logic.{_≢_}
 use mathlib.Core.Bool.{Bool, true, _&&_}
 use mathlib.Core.List.{List}
-use Prim.Native.Nat.{ℕ, _+_, _*_, _≤_, _<_}
+use Prim.Native.Nat.{ℕ, _+_, _-_, _≤_, _<_}
 use native.Mathlib.Omega.{arith}
 use lib.ListN.{length}
 use lib.IntN.{ℤ}
@@ -38,6 +38,7 @@ pub record Ruling (g table r f : List ℕ) (plan places : List (List ℕ)) (z : 
 pub record Passing (g table r f : List ℕ) (plan : List (List ℕ)) (z : List ℕ) (s : Rules) (next : ℕ) (t : Rules) : Type 0 where
   pub number : t .number ≡ s .number + 1
   pub count : t .count ≡ s .count
+  pub room : length g ≡ pairLimit
   pub walked : Walked g table r f plan z next t
 
 -- none is passed yet
@@ -86,6 +87,7 @@ module _ {g table r f : List ℕ} {plan places : List (List ℕ)} {z : List ℕ}
       passing t here long en ec eo ew eh el F = record {
         number = en;
         count = ec;
+        room = P .gains .long;
         walked = record {
           all = ec ∙ S .walked .all;
           place = rw (el, S .walked .place, en) (steps (S .given .laid .inputs) (S .walked .stands) low N .next);
@@ -102,5 +104,27 @@ pub record Unread (g table r f : List ℕ) (plan places : List (List ℕ)) (z : 
   pub room : length g ≡ pairLimit
   pub first : AtFirst r f next s
 
-pub all-read : {g table r f : List ℕ} {plan : List (List ℕ)} {z : List ℕ} {at : ℕ} {s : Rules} → Walked g table r f plan z at s → s .count ≡ s .number → s .ok ≡ every (subproblemOk table r f z) (subproblems r f)
-all-read {g} {table} {r} {f} {plan} {z} {at} {s} W e = W .seen ∙ ap (every (subproblemOk table r f z)) (sym e ∙ W .all)
+-- ---- the walk's invariant
+
+pub record Going (g table r f : List ℕ) (plan places : List (List ℕ)) (z : List ℕ) (at : ℕ) (s : Rules) : Type 0 where
+  pub given : Given table r f plan places z
+  pub room : length g ≡ pairLimit
+  pub walked : Walked g table r f plan z at s
+  pub upto : s .number ≤ s .count
+
+module _ {g table r f : List ℕ} {plan places : List (List ℕ)} {z : List ℕ} {at : ℕ} {s : Rules} where
+  pub going-first : Unread g table r f plan places z at s → Going g table r f plan places z at s
+  going-first U = record { given = U .given; room = U .room; walked = walked-none g table plan z (U .first); upto = rw (U .first .number) (omega arith) }
+
+  pub going-reads : Going g table r f plan places z at s → s .number < s .count → Ruling g table r f plan places z at s
+  going-reads G l = record { given = G .given; room = G .room; walked = G .walked; more = l }
+
+  pub going-on : {g′ : List ℕ} {next : ℕ} {t : Rules} → Going g table r f plan places z at s → s .number < s .count → Passing g′ table r f plan z s next t → Going g′ table r f plan places z next t
+  going-on G l P = record { given = G .given; room = P .room; walked = P .walked; upto = let a = P .number in let b = P .count in omega arith }
+
+  pub going-end : Going g table r f plan places z at s → s .count ≤ s .number → s .ok ≡ every (subproblemOk table r f z) (subproblems r f)
+  going-end G h = let u = G .upto in let e : s .number ≡ s .count = omega arith in G .walked .seen ∙ ap (every (subproblemOk table r f z)) (e ∙ G .walked .all)
+
+-- a step comes nearer to the end
+pub nearer : {g table r f : List ℕ} {plan : List (List ℕ)} {z : List ℕ} {s : Rules} {next : ℕ} {t : Rules} → s .number < s .count → Passing g table r f plan z s next t → t .count - t .number < s .count - s .number
+nearer l P = let a = P .number in let b = P .count in omega arith
