@@ -1,0 +1,2 @@
+-- The items of a certificate's check, put together.
+pub mod Items
