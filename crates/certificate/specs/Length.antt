@@ -13,8 +13,9 @@ use Rattle.foundations.specs.Counting.{cnt, cnt-drop, cnt-none, cnt-swap}
 use Rattle.foundations.specs.Lists.{length-below}
 use Rattle.foundations.specs.Members.{getD-mem, del-out, length-del, mem-occ, place-low}
 use Rattle.model.specs.Calls.{inputItem}
-use Rattle.model.specs.Certificate.{squares, certificateLength, others, recordLength, recordAt}
+use Rattle.model.specs.Certificate.{squares, certificateLength, partnerAt, others, recordLength, recordAt}
 use Rattle.model.specs.Graph.{joined, neighbours}
+use Rattle.model.specs.Lengths.{subproblemLength}
 use Rattle.model.specs.Limits.{vertexLimit, degreeLimit, widthLimit, squareLimit, certificateLimit}
 use Rattle.model.specs.Order.{parent, depth, children, postorder, position, choices, width, subproblems, offset, slot, index, uAt, vAt, sAt}
 use Rattle.model.specs.Tree.{count}
@@ -26,7 +27,7 @@ use Rattle.formats.specs.Inputs.{input-accepted}
 use Rattle.subtrees.specs.Accepted.{recorded-tree, found-tree}
 use Rattle.subtrees.specs.Trees.{IsTree, joined-swap, joined-mem, up-joined}
 
-pub record-sum : (r f : List ℕ) (k : ℕ) → recordAt r f k ≡ 8 + 3 * count r + sum k (recordLength r f)
+pub record-sum : (r f : List ℕ) (k : ℕ) → recordAt r f k ≡ partnerAt (count r) + sum k (recordLength r f)
 unfolding recordAt sum
 record-sum r f zero = omega arith
 record-sum r f (suc k) = rw (record-sum r f k) (omega arith)
@@ -37,7 +38,7 @@ record-up r f k zero h = absurd (omega arith)
 record-up r f k (suc n) h = ⊎-elim (λ e. rw e (omega arith)) (λ q. let p = record-up r f k n (omega arith) in omega arith) (same? k n)
 
 -- n rows of w records: g gives the children of each row's u, q is the sum of squares
-total : (n w q : ℕ) (g : ℕ → ℕ) → sum n (λ i. w * (6 + 4 * g i) + 4 * q) ≡ 6 * (n * w) + 4 * (sum n g * w) + 4 * (n * q)
+total : (n w q : ℕ) (g : ℕ → ℕ) → sum n (λ i. w * subproblemLength (g i) 0 + 4 * q) ≡ subproblemLength 0 0 * (n * w) + 4 * (sum n g * w) + 4 * (n * q)
 unfolding sum
 total zero w q g = omega arith
 total (suc n) w q g = omega (arith, total n w q g)
@@ -96,7 +97,7 @@ module _ (s : List ℕ) (t : IsTree s) where
 module _ (r f : List ℕ) (tr : IsTree r) (tf : IsTree f) where
   -- record i * (3m - 2) + (offset of v) + j has the i-th vertex in postorder, v, and the j-th choice for v
   pub record-row : (i v j : ℕ) → i < count r → v < count f → j < length (choices f v) →
-      recordLength r f (i * width f + (offset f v + j)) ≡ (6 + 4 * length (children r (getD (postorder r) i 0))) + 4 * length (others f v (getD (choices f v) j 0))
+      recordLength r f (i * width f + (offset f v + j)) ≡ subproblemLength (length (children r (getD (postorder r) i 0))) 0 + 4 * length (others f v (getD (choices f v) j 0))
   unfolding recordLength index
   record-row i v j li lv lj =
       let k = i * width f + (offset f v + j) in
@@ -111,16 +112,16 @@ module _ (r f : List ℕ) (tr : IsTree r) (tf : IsTree f) where
       let o = index-once r f (tr .ends) (tr .loopless) (tf .ends) (tf .loopless) k (uAt r f k) (vAt f k) (sAt f k) u v s (sub-at r f (tr .ends) (tr .loopless) (tf .ends) (tf .loopless) k l) S in
       same-length (o .0) (o .1) (o .2)
     where
-      same-length : {u v s u′ v′ s′ : ℕ} → u ≡ u′ → v ≡ v′ → s ≡ s′ → 6 + 4 * length (children r u) + 4 * length (others f v s) ≡ (6 + 4 * length (children r u′)) + 4 * length (others f v′ s′)
-      same-length a b c = rw (a, b, c)
+      same-length : {u v s u′ v′ s′ : ℕ} → u ≡ u′ → v ≡ v′ → s ≡ s′ → subproblemLength (length (children r u)) (length (others f v s)) ≡ subproblemLength (length (children r u′)) 0 + 4 * length (others f v′ s′)
+      same-length a b c = rw (a, b, c) (omega arith)
 
   -- the records of one u
-  pub row-sum : (i : ℕ) → i < count r → (v : ℕ) → v ≤ count f → sum (offset f v) (λ j. recordLength r f (i * width f + j)) ≡ offset f v * (6 + 4 * length (children r (getD (postorder r) i 0))) + 4 * squares f v
+  pub row-sum : (i : ℕ) → i < count r → (v : ℕ) → v ≤ count f → sum (offset f v) (λ j. recordLength r f (i * width f + j)) ≡ offset f v * subproblemLength (length (children r (getD (postorder r) i 0))) 0 + 4 * squares f v
   unfolding offset squares
   row-sum i li zero h = unfold sum in omega arith
   row-sum i li (suc v) h =
       let F : ℕ → ℕ = λ j. recordLength r f (i * width f + j) in
-      let c = 6 + 4 * length (children r (getD (postorder r) i 0)) in
+      let c = subproblemLength (length (children r (getD (postorder r) i 0))) 0 in
       let o : ℕ → ℕ = λ j. length (others f v (getD (choices f v) j 0)) in
       let first = row-sum i li v (omega arith) in
       let rest : sum (length (choices f v)) (λ j. F (offset f v + j)) ≡ length (choices f v) * c + 4 * (length (neighbours f v) * length (neighbours f v))
@@ -137,15 +138,15 @@ module _ (r f : List ℕ) (tr : IsTree r) (tf : IsTree f) where
   unfolding subproblems certificateLength
   records-end =
       record-sum r f (count r * width f)
-      ∙ ap (λ (x : ℕ). 8 + 3 * count r + x)
+      ∙ ap (λ (x : ℕ). partnerAt (count r) + x)
       (sum-rows (count r) (width f) (recordLength r f)
-      ∙ sum-ext (count r) (λ i. sum (width f) (λ j. recordLength r f (i * width f + j))) (λ i. width f * (6 + 4 * length (children r (getD (postorder r) i 0))) + 4 * squares f (count f)) whole
+      ∙ sum-ext (count r) (λ i. sum (width f) (λ j. recordLength r f (i * width f + j))) (λ i. width f * subproblemLength (length (children r (getD (postorder r) i 0))) 0 + 4 * squares f (count f)) whole
       ∙ total (count r) (width f) (squares f (count f)) (λ i. length (children r (getD (postorder r) i 0)))
-      ∙ ap (λ (x : ℕ). 6 * (count r * width f) + 4 * (x * width f) + 4 * (count r * squares f (count f))) (children-sum r tr))
+      ∙ ap (λ (x : ℕ). subproblemLength 0 0 * (count r * width f) + 4 * (x * width f) + 4 * (count r * squares f (count f))) (children-sum r tr))
       ∙ omega arith
     where
-      whole : (i : ℕ) → i < count r → sum (width f) (λ j. recordLength r f (i * width f + j)) ≡ width f * (6 + 4 * length (children r (getD (postorder r) i 0))) + 4 * squares f (count f)
-      whole i l = subst (λ (x : ℕ). sum x (λ j. recordLength r f (i * width f + j)) ≡ x * (6 + 4 * length (children r (getD (postorder r) i 0))) + 4 * squares f (count f)) (offset-all f (tf .ends) (tf .loopless)) (row-sum i l (count f) (omega arith))
+      whole : (i : ℕ) → i < count r → sum (width f) (λ j. recordLength r f (i * width f + j)) ≡ width f * subproblemLength (length (children r (getD (postorder r) i 0))) 0 + 4 * squares f (count f)
+      whole i l = subst (λ (x : ℕ). sum x (λ j. recordLength r f (i * width f + j)) ≡ x * subproblemLength (length (children r (getD (postorder r) i 0))) 0 + 4 * squares f (count f)) (offset-all f (tf .ends) (tf .loopless)) (row-sum i l (count f) (omega arith))
 
 pub length-closed : (table r f : List ℕ) → inputItem table r f ≡ 0 → recordAt r f (subproblems r f) ≡ certificateLength r f
 length-closed table r f e = let A = input-accepted table r f e in records-end r f (recorded-tree A) (found-tree A)

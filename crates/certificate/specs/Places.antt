@@ -13,6 +13,7 @@ use Rattle.foundations.specs.Members.{getD-mem, del-out, length-del}
 use Rattle.model.specs.Calls.{inputItem}
 use Rattle.model.specs.Certificate.{squares, certificateLength, others, recordLength, recordAt}
 use Rattle.model.specs.Graph.{neighbours}
+use Rattle.model.specs.Lengths.{subproblemLength}
 use Rattle.model.specs.Limits.{squareLimit, certificateLimit}
 use Rattle.model.specs.Order.{children, postorder, choices, width, subproblems, offset}
 use Rattle.model.specs.Tree.{count}
@@ -41,7 +42,7 @@ before-some d (suc q) n = let e : suc q - 1 ≡ q = omega arith in rw e
 
 -- the bytes of a record of the i-th vertex in postorder, but those for v's neighbours
 unfoldable pub rowSize : List ℕ → ℕ → ℕ
-rowSize r i = 6 + 4 * length (children r (getD (postorder r) i 0))
+rowSize r i = subproblemLength (length (children r (getD (postorder r) i 0))) 0
 
 record-from : (r f : List ℕ) (a j : ℕ) → recordAt r f (a + j) ≡ recordAt r f a + sum j (λ t. recordLength r f (a + t))
 record-from r f a j =
@@ -68,7 +69,7 @@ module _ (r f : List ℕ) (tr : IsTree r) (tf : IsTree f) where
   unfolding rowSize
   place-tree i v q li lv lq =
       let F : ℕ → ℕ = λ j. recordLength r f (i * width f + j) in
-      let c = 6 + 4 * length (children r (getD (postorder r) i 0)) in
+      let c = subproblemLength (length (children r (getD (postorder r) i 0))) 0 in
       let o : ℕ → ℕ = λ j. length (others f v (getD (choices f v) j 0)) in
       let rest : sum q (λ j. F (offset f v + j)) ≡ q * c + 4 * othersBefore (length (neighbours f v)) q
       = sum-ext q (λ j. F (offset f v + j)) (λ j. c + 4 * o j) (λ j lj. record-row r f tr tf i v j li lv (omega arith))
@@ -87,7 +88,7 @@ module _ (r f : List ℕ) (tr : IsTree r) (tf : IsTree f) where
       ap (recordAt r f) (next i (width f))
       ∙ record-from r f (i * width f) (width f)
       ∙ ap (λ (x : ℕ). recordAt r f (i * width f) + x)
-      (subst (λ (x : ℕ). sum x (λ j. recordLength r f (i * width f + j)) ≡ x * (6 + 4 * length (children r (getD (postorder r) i 0))) + 4 * squares f (count f)) (offset-all f (tf .ends) (tf .loopless)) (row-sum r f tr tf i li (count f) (omega arith)))
+      (subst (λ (x : ℕ). sum x (λ j. recordLength r f (i * width f + j)) ≡ x * subproblemLength (length (children r (getD (postorder r) i 0))) 0 + 4 * squares f (count f)) (offset-all f (tf .ends) (tf .loopless)) (row-sum r f tr tf i li (count f) (omega arith)))
     where
       next : (i w : ℕ) → (i + 1) * w ≡ i * w + w
       next i w = omega arith

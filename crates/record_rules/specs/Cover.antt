@@ -12,6 +12,7 @@ use Rattle.foundations.specs.Lists.{every, every-ext}
 use Rattle.foundations.specs.Sums.{sum, sum-ext}
 use Rattle.model.specs.Bytes.{int32At}
 use Rattle.model.specs.Certificate.{eqZ}
+use Rattle.model.specs.Lengths.{subproblemLength}
 use Rattle.model.specs.Limits.{degreeLimit, certificateLimit}
 use Rattle.model.specs.Weights.{isForbidden}
 use Rattle.plan.specs.Pairs.{cell}
@@ -46,7 +47,7 @@ row-duals A i h = let few = A .rows in record { row = omega arith; columns = A .
 -- ---- one record: value, k duals, l duals
 
 pub record Inside (size here k l : ℕ) : Type 0 where
-  pub fits : here + 6 + 4 * k + 4 * l ≤ size
+  pub fits : here + subproblemLength k l ≤ size
   pub small : size ≤ certificateLimit
   pub rows : k ≤ degreeLimit
   pub columns : l ≤ degreeLimit

@@ -112,7 +112,7 @@ module _ {r f : List ℕ} {plan : List (List ℕ)} (I : Inputs r f plan) where
 
   pub size-is : (i : ℕ) → i < count r → subproblemLength (childCountIn plan (orderIn plan i)) 0 ≡ rowSize r i
   unfolding rowSize
-  size-is i l = rw (I .ready .planned .recorded (orderIn plan i) (order-low i l .0) .child-count, I .ready .planned .recorded i l .order) (omega arith)
+  size-is i l = rw (I .ready .planned .recorded (orderIn plan i) (order-low i l .0) .child-count, I .ready .planned .recorded i l .order)
 
   pub found-known : (v : ℕ) → v < count f → FoundKnown f plan v
   found-known v l =

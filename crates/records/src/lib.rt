@@ -169,30 +169,3 @@ pub fn record_in(
     let o = others_before(degree(plan, v), q);
     first + (offset_of(plan, v) + q) * own + 4 * (squares(places, v) + o)
 }
-
-// The same from what stands in the arrays.
-pub fn record_at(
-    recorded: &[u8],
-    found: &[u8],
-    plan: &Plan,
-    places: &Places,
-    i: usize,
-    v: u8,
-    q: usize,
-) -> usize
-    requires { ⌜ Laid (now recorded) (now found) (now plan) (now places) ⌝ }
-    requires { ⌜ (i < count (now recorded)) × (v < count (now found)) × (q ≤ length (neighbours (now found) v)) ⌝ }
-    ensures { λ r. ⌜ (r ≡ recordAt (now (recorded .entry)) (now (found .entry)) (i * width (now (found .entry)) + (offset (now (found .entry)) v + q))) × (r + 6 ≤ certificateLimit) ⌝ }
-{
-    record_in(
-        recorded,
-        found,
-        plan,
-        places,
-        i,
-        begin(places, i),
-        size(plan, i),
-        v,
-        q,
-    )
-}

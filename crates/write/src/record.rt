@@ -3,8 +3,6 @@ use duals::Duals;
 use duals::duals_of;
 use duals::pair_gains;
 use formats::tree::vertex_count;
-use lengths::head;
-use lengths::partner;
 use lengths::subproblem;
 use model::Limits;
 use model::WideRow;
@@ -18,6 +16,7 @@ use plan::weights::vertex_pair;
 use put::put_record;
 use records::column;
 use records::others_of;
+use records::records_begin;
 ghost use Prim.Native.Nat.{ℕ, _+_, _*_, _≤_, _<_};
 ghost use mathlib.Core.Path.{_≡_};
 ghost use lib.ListN.{length};
@@ -147,7 +146,7 @@ pub(crate) fn put_records(
     ensures { λ _. ⌜ RecordsLeft (now (table .entry)) (now (recorded .entry)) (now (found .entry)) (now (work .entry)) 0 (subproblems (now (recorded .entry)) (now (found .entry))) (now (certificate .entry)) (now (certificate .exit)) ⌝ }
 {
     let n = vertex_count(recorded);
-    let mut at = head() + partner() * n;
+    let mut at = records_begin(n);
     let mut i = 0;
     while i < n {
         at = put_row(table, recorded, found, plan, work, certificate, at, i);

@@ -1,6 +1,6 @@
 -- `put_records` stores the records of one recorded vertex after the other. Assumes nothing.
 use Prim.Native.Nat.{_*_, _-_, _≤_}
-use mathlib.Core.Path.{_≡_}
+use mathlib.Core.Path.{_≡_, _∙_}
 use Rattle.model.specs.Order.{width}
 use Rattle.model.specs.Tree.{count}
 use Rattle.trees.specs.Accepted.{whole}
@@ -22,27 +22,18 @@ abbrev μ-loop : tie.MeasureT-loop
 vertex-count-requires : tie.Need-vertex-count-requires Inv-loop μ-loop
 vertex-count-requires c κs = whole (ready-recorded (c .before .before .before .before .pre .0) .passed .ends)
 
-mul-at : tie.Need-mul-at Inv-loop μ-loop
-mul-at c =
-    let e = c .before .before .vertex-count .ensures in
-    let few = inputs-few (ready-inputs (c .before .before .before .before .before .before .before .pre .0)) .0 in
-    rw (c .partner .ensures) (omega arith)
-
-add-at : tie.Need-add-at Inv-loop μ-loop
-add-at c =
-    let e = c .before .before .vertex-count .ensures in
-    let few = inputs-few (ready-inputs (c .before .before .before .before .before .before .before .pre .0)) .0 in
-    rw (c .partner .ensures, c .before .head .ensures) (omega arith)
+records-begin-requires : tie.Need-records-begin-requires Inv-loop μ-loop
+records-begin-requires c κs = let few = inputs-few (ready-inputs (c .before .before .before .before .before .pre .0)) .0 in omega (arith, few, c .vertex-count .ensures)
 
 loop-holds : tie.Need-loop-holds Inv-loop μ-loop
 loop-holds c =
-    let e = c .before .before .vertex-count .ensures in
-    (omega arith, e, walked-none _ _ _ (omega arith) (rw (c .partner .ensures, c .before .head .ensures) (rows-begin _ _ _ e)))
+    let e = c .before .vertex-count .ensures in
+    (omega arith, e, walked-none _ _ _ (omega arith) (c .records-begin .ensures ∙ rows-begin _ _ _ e))
 
 put-row-requires : tie.Need-put-row-requires Inv-loop μ-loop
 put-row-requires c κs =
     let l = c .before .before in
-    let p = l .before .before .before .before .before .before .before .before .pre in
+    let p = l .before .before .before .before .before .before .before .pre in
     let W = l .loop .inv .2 in
     (p .0, (p .1 .0, (omega (arith, p .1 .1, W .records .kept .size), (omega (arith, l .loop .inv .1, c .before .loop-test .taken), W .ends))))
 
@@ -54,7 +45,7 @@ loop-again c =
 returns : tie.Need-returns Inv-loop μ-loop
 returns c =
     let l = c .before in
-    let s = l .before .before .before .before .before .before .before .before in
+    let s = l .before .before .before .before .before .before .before in
     let e : l .loop .i ≡ count (s .args .recorded .now) = omega (arith, l .loop .inv .1, c .loop-test .left) in
     walked-end (l .loop .inv .2) (rows-end _ _ _ e) .records
 
@@ -65,10 +56,7 @@ put-records-spec =
     Inv-loop
     μ-loop
     vertex-count-requires
-    (λ c κs. search needs)
-    (λ c κs. search needs)
-    mul-at
-    add-at
+    records-begin-requires
     loop-holds
     put-row-requires
     (λ c. search needs)
