@@ -14,7 +14,7 @@ use Rattle.foundations.specs.Tests.{same?}
 use Rattle.foundations.specs.Lists.{every, every-step, every-ext, every-sum, tab, length-tab, getD-tab}
 use Rattle.model.specs.Bytes.{byteAt, isMark}
 use Rattle.model.specs.Certificate.{headMark, partnerMark, recordMark, certificateLength, partnerAt, recordAt, mappingIn, shapeOk}
-use Rattle.model.specs.Lengths.{headLength, partnerLength, subproblemLength}
+use Rattle.model.specs.Lengths.{certificateHeadLength, partnerLength, subproblemLength}
 use Rattle.model.specs.Limits.{vertexLimit}
 use Rattle.model.specs.Order.{subproblems}
 use Rattle.model.specs.Tree.{count}
@@ -137,11 +137,11 @@ module _ {r f : List ℕ} {plan : List (List ℕ)} {z : List ℕ} {at : ℕ} {m 
 
   -- the head
   module _ (e : m .number ≡ 0) where
-    pub head-at : (at ≡ 0) × (at + headLength ≤ length z)
+    pub head-at : (at ≡ 0) × (at + certificateHeadLength ≤ length z)
     unfolding placeOf
     head-at = let a : at ≡ 0 = W .place ∙ rw e in let b = front-inside r f z (S .long) in (a, omega arith)
 
-    pub head-stepped : (here : Bool) (n k long : ℕ) → n ≡ count r → k ≡ count f → long ≡ headLength → here ≡ (isMark z at headMark && (eqb (byteAt z (at + 2)) n && eqb (byteAt z (at + 3)) k)) →
+    pub head-stepped : (here : Bool) (n k long : ℕ) → n ≡ count r → k ≡ count f → long ≡ certificateHeadLength → here ≡ (isMark z at headMark && (eqb (byteAt z (at + 2)) n && eqb (byteAt z (at + 3)) k)) →
         Stepped r f z m (at + long) (movedOn m here (m .cursor))
     head-stepped here n k long en ek el h =
         stepped m here (m .cursor) (at + long) W

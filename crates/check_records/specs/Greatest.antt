@@ -11,7 +11,7 @@ use lib.Signed.{leZ}
 use Rattle.foundations.specs.Int.{up, int, ints, canon}
 use Rattle.foundations.specs.Lists.{below}
 use Rattle.model.specs.Certificate.{certificateLength, valueIn, valueOf, eqZ}
-use Rattle.model.specs.Lengths.{headLength}
+use Rattle.model.specs.Lengths.{certificateHeadLength}
 use Rattle.model.specs.Mapping.{num}
 use Rattle.model.specs.Order.{width, offset, index}
 use Rattle.model.specs.Tree.{count}
@@ -132,7 +132,7 @@ module _ {r f : List ℕ} {plan places : List (List ℕ)} (L : Laid r f plan pla
 -- ---- item 24's test
 
 -- the head is there
-pub long-head : (r f z : List ℕ) → length z ≡ certificateLength r f → headLength ≤ length z
+pub long-head : (r f z : List ℕ) → length z ≡ certificateLength r f → certificateHeadLength ≤ length z
 unfolding certificateLength
 long-head r f z e = omega arith
 

@@ -2,13 +2,13 @@
 //! the code.
 use model::RecordLength;
 ghost use mathlib.Core.Path.{_≡_};
-ghost use Rattle.model.specs.Lengths.{treeHeadLength, vertexLength, edgeLength, tableHeadLength, vertexRowLength, edgeRowLength, serialVertexLength, headLength, partnerLength, subproblemLength, lengthOf};
+ghost use Rattle.model.specs.Lengths.{treeHeadLength, vertexLength, edgeLength, tableHeadLength, vertexRowLength, edgeRowLength, serialVertexLength, certificateHeadLength, partnerLength, subproblemLength, lengthByMark};
 ghost use Rattle.lengths.specs.Bytes.{bytesOf};
 
 // The record whose mark is a, b. A row's length hangs on the table's K or L, that of a subproblem's record on the number of children of u and of neighbours
 // of v other than s; the other lengths hang on none of these.
 pub fn record_length(a: u8, b: u8, k: u8, l: u8, children: u8, others: u8) -> RecordLength
-    ensures { λ r. ⌜ r ≡ lengthOf a b k l children others ⌝ }
+    ensures { λ r. ⌜ r ≡ lengthByMark a b k l children others ⌝ }
 {
     match a {
         0xB1 => match b {
@@ -86,7 +86,7 @@ pub fn serial_vertex() -> usize
 }
 
 pub fn head() -> usize
-    ensures { λ r. ⌜ r ≡ headLength ⌝ }
+    ensures { λ r. ⌜ r ≡ certificateHeadLength ⌝ }
 {
     bytes(record_length(0xC1, 0x01, 0, 0, 0, 0))
 }

@@ -11,7 +11,7 @@ use Rattle.foundations.specs.Lists.{every, tab}
 use Rattle.foundations.specs.Members.{del}
 use Rattle.foundations.specs.Sums.{sumℤ}
 use Rattle.model.specs.Bytes.{byteAt, isMark, int32At}
-use Rattle.model.specs.Lengths.{headLength, partnerLength, subproblemLength}
+use Rattle.model.specs.Lengths.{certificateHeadLength, partnerLength, subproblemLength}
 use Rattle.model.specs.Refusals.{Item, item, firstOf}
 use Rattle.model.specs.Weights.{Weight, none, some, weighed, isForbidden}
 use Rattle.model.specs.Tree.{count}
@@ -33,19 +33,21 @@ partnerMark = 0xC1 ∷ 0x02 ∷ []
 abbrev pub recordMark : List ℕ
 recordMark = 0xC1 ∷ 0x03 ∷ []
 
--- ---- the length: "8 + 3n + 6n(3m - 2) + 4(n - 1)(3m - 2) + 4n times the sum of squares" of the found vertices' degrees; a record without duals has 6 bytes
+-- ---- the length: "8 + 3n + 6n(3m - 2) + 4(n - 1)(3m - 2) + 4n times the sum of squares" of the found vertices' degrees: the records of
+-- all subproblems, as if without duals, then 4 bytes for each dual of a child and for each of a neighbour
 
 unfoldable pub squares : List ℕ → ℕ → ℕ
 squares f zero = 0
 squares f (suc v) = squares f v + length (neighbours f v) * length (neighbours f v)
 
 unfoldable pub certificateLength : List ℕ → List ℕ → ℕ
-certificateLength r f = headLength + partnerLength * count r + subproblemLength 0 0 * subproblems r f + 4 * ((count r - 1) * width f) + 4 * (count r * squares f (count f))
+certificateLength r f = certificateHeadLength + partnerLength * count r + subproblemLength 0 0 * subproblems r f + 4 * ((count r - 1) * width f) + 4 * (count r * squares f (count f))
 
 -- ---- where things stand: the head, a partner for each recorded vertex, then the record of each subproblem in order
 
+-- the partner of u, and for u = n, after the last, the first subproblem's record
 abbrev pub partnerAt : ℕ → ℕ
-partnerAt u = headLength + partnerLength * u
+partnerAt u = certificateHeadLength + partnerLength * u
 
 -- the neighbours of v other than s
 abbrev pub others : List ℕ → ℕ → ℕ → List ℕ

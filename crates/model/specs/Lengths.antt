@@ -1,5 +1,7 @@
 -- The length of a record from its mark, by cases: one for each of the ten marks, and unknown for any other pair of bytes. Paper 01, "Bytes of a table and a
--- layout" and "The sheet"; paper 02, [3] and [5]. No record's length is a number anywhere else: the other definitions take the names from here.
+-- layout" and "The sheet"; paper 02, [3] and [5]. The other definitions take the lengths by name from here; where something stands inside its record is a
+-- number where it is read, and so are the 4 bytes of a bound in the sheet's length. Layouts are trees, devices vertices, lines edges; u, v and s are those of
+-- "Subproblems and their order".
 use Prim.Native.Nat.{ℕ, _+_, _*_}
 use mathlib.Core.Bool.{_&&_, cond}
 use mathlib.Core.List.{List, [], _∷_}
@@ -7,7 +9,7 @@ use lib.Dec.{eqb}
 use Rattle.model.specs.declared.RecordLength.{RecordLength}
 use Rattle.model.specs.declared.RecordLength.the-variants.{Bytes, Unknown}
 
--- ---- the bytes of each record, the two of its mark among them
+-- ---- the bytes of each record by the number of its mark: 2 are the mark, a weight, a value, a bound and a serial have 4, all else has 1
 
 -- B1 01, layout head: n
 abbrev pub treeHeadLength : ℕ
@@ -38,8 +40,8 @@ abbrev pub serialVertexLength : ℕ
 serialVertexLength = 7
 
 -- C1 01, sheet head: n, m, the weight
-abbrev pub headLength : ℕ
-headLength = 8
+abbrev pub certificateHeadLength : ℕ
+certificateHeadLength = 8
 
 -- C1 02, partner: a partner byte
 abbrev pub partnerLength : ℕ
@@ -64,16 +66,17 @@ cases K L children others =
     ∷ (0xB1, 0x05, vertexRowLength K)
     ∷ (0xB1, 0x06, edgeRowLength L)
     ∷ (0xB1, 0x07, serialVertexLength)
-    ∷ (0xC1, 0x01, headLength)
+    ∷ (0xC1, 0x01, certificateHeadLength)
     ∷ (0xC1, 0x02, partnerLength)
     ∷ (0xC1, 0x03, subproblemLength children others)
     ∷ []
 
--- the case of the mark a b, among those of a list
+-- the length by the case of the mark a b, of a list of cases
 abbrev pub caseOf : ℕ → ℕ → List Case → RecordLength
 caseOf a b [] = Unknown
-caseOf a b ((x, y, n) ∷ rest) = cond (eqb a x && eqb b y) (Bytes n) (caseOf a b rest)
+caseOf a b ((x, y, bytes) ∷ rest) = cond (eqb a x && eqb b y) (Bytes bytes) (caseOf a b rest)
 
--- a and b are any two bytes; K and L are the table's, `children` counts the children of u, `others` the neighbours of v other than s
-abbrev pub lengthOf : ℕ → ℕ → ℕ → ℕ → ℕ → ℕ → RecordLength
-lengthOf a b K L children others = caseOf a b (cases K L children others)
+-- a and b are any two bytes. K and L are the table's, for its rows alone; `children` counts the children of u and `others` the neighbours of v other than s,
+-- for a subproblem's record alone
+abbrev pub lengthByMark : ℕ → ℕ → ℕ → ℕ → ℕ → ℕ → RecordLength
+lengthByMark a b K L children others = caseOf a b (cases K L children others)

@@ -1,7 +1,7 @@
 -- Paper 01 as definitions, with what paper 02 adds and changes. This is the text that a reader must believe.
+pub mod Lengths
 pub mod Limits
 pub mod Bytes
-pub mod Lengths
 pub mod Weights
 pub mod Refusals
 pub mod Table

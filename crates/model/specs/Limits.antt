@@ -1,8 +1,8 @@
 -- The numbers that the papers fix for tables, trees and weights, each named once for the definitions, and what follows from them. The code has the
--- same in src/lib.rt as far as it uses them (`weights` and `sizes` there). A job's total has its limit in `Jobs`.
+-- same in src/lib.rt as far as it uses them (`weights` and `sizes` there). The lengths of records stand in `Lengths`, the limit of a job's total in `Jobs`.
 use Prim.Native.Nat.{ℕ, _+_, _*_, _-_, _/_, _%_}
 use lib.IntN.{ℤ, negsuc}
-use Rattle.model.specs.Lengths.{headLength, partnerLength, subproblemLength}
+use Rattle.model.specs.Lengths.{certificateHeadLength, partnerLength, subproblemLength}
 
 -- a weight is from -weightLimit to weightLimit, either end included, or is the forbidden number -2,147,483,648. Paper 02, [2]
 abbrev pub weightLimit : ℕ
@@ -79,4 +79,4 @@ squareLimit = hubLimit * (degreeLimit * degreeLimit) + restLimit * restLimit + (
 
 -- the longest certificate, 278,736: `certificateLength` at these (theorem `length-most`)
 abbrev pub certificateLimit : ℕ
-certificateLimit = headLength + partnerLength * vertexLimit + subproblemLength 0 0 * subproblemLimit + 4 * ((vertexLimit - 1) * widthLimit) + 4 * (vertexLimit * squareLimit)
+certificateLimit = certificateHeadLength + partnerLength * vertexLimit + subproblemLength 0 0 * subproblemLimit + 4 * ((vertexLimit - 1) * widthLimit) + 4 * (vertexLimit * squareLimit)

@@ -35,7 +35,7 @@ vertexStart s v = treeHeadLength + vertexSize s * v
 abbrev pub edgeStart : List ℕ → ℕ → ℕ → ℕ
 edgeStart s n j = vertexStart s n + edgeLength * j
 
--- its length, with n - 1 edges: "8n - 2", and 12n - 2 with serials, for n from 1 on
+-- its length, with n - 1 edges: "8n - 2", and "12n - 2" with serials, for n from 1 on (of n = 0 nothing asks)
 abbrev pub treeSize : List ℕ → ℕ → ℕ
 treeSize s n = edgeStart s n (n - 1)
 

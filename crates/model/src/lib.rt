@@ -86,7 +86,7 @@ impl JobRecord {
     }
 }
 
-// How many bytes a record has, its mark among them; or its mark is none of the ten.
+// How many bytes a record has, its mark among them; or its mark is none of the ten of specs/Lengths.antt. No call gives this answer.
 pub enum RecordLength {
     Bytes(usize),
     Unknown,

@@ -12,7 +12,7 @@ use lib.Seq.{getD-set-same, getD-set-other}
 use lib.IntN.{ℤ}
 use Rattle.model.specs.Bytes.{byteAt, isMark, int32At}
 use Rattle.model.specs.Certificate.{headMark, partnerMark, partnerAt}
-use Rattle.model.specs.Lengths.{headLength, partnerLength}
+use Rattle.model.specs.Lengths.{certificateHeadLength, partnerLength}
 use Rattle.put.specs.Kept.{Kept, kept-none, kept-wide, kept-both, kept-then, kept-byte, kept-number, kept-mark}
 use Rattle.put.specs.Puts.{MarkPut, NumberPut}
 
@@ -36,7 +36,7 @@ pub record HeadPut (n m : ℕ) (w : ℤ) (z z′ : List ℕ) : Type 0 where
   pub n-is : byteAt z′ 2 ≡ n
   pub m-is : byteAt z′ 3 ≡ m
   pub weighs : int32At z′ 4 ≡ w
-  pub kept : Kept 0 headLength z z′
+  pub kept : Kept 0 certificateHeadLength z z′
 
 pub record PartnerPut (k p : ℕ) (z z′ : List ℕ) : Type 0 where
   pub mark : isMark z′ k partnerMark ≡ true
@@ -46,7 +46,7 @@ pub record PartnerPut (k p : ℕ) (z z′ : List ℕ) : Type 0 where
 pub record PartnersPut (n : ℕ) (p z z′ : List ℕ) : Type 0 where
   pub marks : (u : ℕ) → u < n → isMark z′ (partnerAt u) partnerMark ≡ true
   pub partners : (u : ℕ) → u < n → byteAt z′ (partnerAt u + 2) ≡ getD p u 0
-  pub kept : Kept headLength (partnerAt n) z z′
+  pub kept : Kept certificateHeadLength (partnerAt n) z z′
 
 pub record FrontPut (n m : ℕ) (w : ℤ) (p z z′ : List ℕ) : Type 0 where
   pub head : isMark z′ 0 headMark ≡ true
@@ -76,7 +76,7 @@ partner-put {k} M B =
     }
 
 pub partners-none : (p z : List ℕ) → PartnersPut 0 p z z
-partners-none p z = record { marks = λ u h. absurd (not-suc-le-zero h); partners = λ u h. absurd (not-suc-le-zero h); kept = kept-none headLength (partnerAt 0) z }
+partners-none p z = record { marks = λ u h. absurd (not-suc-le-zero h); partners = λ u h. absurd (not-suc-le-zero h); kept = kept-none certificateHeadLength (partnerAt 0) z }
 
 pub partners-more : {at i : ℕ} {p z y x : List ℕ} → at ≡ partnerAt i → PartnersPut i p z y → PartnerPut at (getD p i 0) y x → PartnersPut (i + 1) p z x
 partners-more {at} {i} {p} {z} {y} {x} e R M =

@@ -7,13 +7,13 @@ use model::Mapping;
 ghost use Prim.Native.Nat.{_+_, _≤_};
 ghost use lib.ListN.{length};
 ghost use Rattle.model.specs.Certificate.{partnerAt};
-ghost use Rattle.model.specs.Lengths.{headLength, partnerLength};
+ghost use Rattle.model.specs.Lengths.{certificateHeadLength, partnerLength};
 ghost use Rattle.model.specs.Limits.{vertexLimit};
 ghost use Rattle.put.specs.Front.{HeadPut, PartnerPut, PartnersPut, FrontPut};
 
 // Stores the head: the two counts and the weight.
 fn put_head(d: &mut [u8], n: usize, m: usize, w: i32)
-    requires { ⌜ headLength ≤ length (now d) ⌝ }
+    requires { ⌜ certificateHeadLength ≤ length (now d) ⌝ }
     requires { ⌜ (n ≤ vertexLimit) × (m ≤ vertexLimit) ⌝ }
     ensures { λ _. ⌜ HeadPut n m w (now (d .entry)) (now (d .exit)) ⌝ }
 {

@@ -7,7 +7,7 @@ use lib.ListN.{length, getD}
 use Rattle.foundations.specs.Lists.{tab, getD-tab}
 use Rattle.model.specs.Certificate.{squares, certificateLength}
 use Rattle.model.specs.Graph.{neighbours}
-use Rattle.model.specs.Lengths.{headLength, partnerLength, subproblemLength}
+use Rattle.model.specs.Lengths.{certificateHeadLength, partnerLength, subproblemLength}
 use Rattle.model.specs.Limits.{vertexLimit, squareLimit, certificateLimit}
 use Rattle.model.specs.Order.{width, subproblems}
 use Rattle.model.specs.Tree.{count, degree}
@@ -37,6 +37,6 @@ pub length-low : {r f : List ℕ} → Sound r → Sound f → certificateLength 
 length-low {r} {f} R F = length-few r f (R .passed .ends .few) (F .passed .ends .few) (squares-few f _ _ (F .passed) (count f) (omega arith))
 
 -- the parts as the code adds them
-pub length-parts : (r f : List ℕ) {n all w q : ℕ} → n ≡ count r → all ≡ subproblems r f → w ≡ width f → q ≡ squares f (count f) → headLength + partnerLength * n + subproblemLength 0 0 * all + 4 * ((n - 1) * w) + 4 * (n * q) ≡ certificateLength r f
+pub length-parts : (r f : List ℕ) {n all w q : ℕ} → n ≡ count r → all ≡ subproblems r f → w ≡ width f → q ≡ squares f (count f) → certificateHeadLength + partnerLength * n + subproblemLength 0 0 * all + 4 * ((n - 1) * w) + 4 * (n * q) ≡ certificateLength r f
 unfolding certificateLength
 length-parts r f a b c d = rw (a, b, c, d)
