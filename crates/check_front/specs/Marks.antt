@@ -1,9 +1,9 @@
 -- Item 20, record by record: record j of a certificate, where it begins, and what is known after the first j of them. Assumes nothing.
 use mathlib.Core.Path.{_≡_, refl, sym, ap, _∙_}
-use mathlib.Core.Logic.{_≢_, ⊎-elim}
+use mathlib.Core.Logic.{⊎-elim}
 use mathlib.Core.Bool.{Bool, true, false, _&&_, cond}
 use mathlib.Core.List.{List}
-use Prim.Native.Nat.{ℕ, zero, suc, _+_, _*_, _-_, _≤_, _<_}
+use Prim.Native.Nat.{ℕ, zero, suc, _+_, _-_, _≤_, _<_}
 use native.Mathlib.Omega.{arith}
 use native.Mathlib.Numerals.{add-one}
 use lib.ListN.{length, getD, set, take, length-set}
@@ -11,7 +11,7 @@ use lib.Dec.{eqb, ltb}
 use lib.Seq.{getD-set-same, getD-set-other, getD-take, length-take-le, ext-getD}
 use borrow.Author.Tests.{lt-ltb, le-ltb, eq-eqb}
 use Rattle.foundations.specs.Tests.{same?}
-use Rattle.foundations.specs.Lists.{every, every-step, every-ext, every-sum, tab, length-tab, getD-tab}
+use Rattle.foundations.specs.Lists.{every, every-step, every-ext, every-sum, length-tab, getD-tab}
 use Rattle.model.specs.Bytes.{byteAt, isMark}
 use Rattle.model.specs.Certificate.{headMark, partnerMark, recordMark, certificateLength, partnerAt, recordAt, mappingIn, shapeOk}
 use Rattle.model.specs.Lengths.{certificateHeadLength, partnerLength, subproblemLength}
@@ -19,7 +19,7 @@ use Rattle.model.specs.Limits.{vertexLimit}
 use Rattle.model.specs.Order.{subproblems}
 use Rattle.model.specs.Tree.{count}
 use Rattle.records.specs.declared.cursor.Cursor.{Cursor}
-use Rattle.records.specs.Cursor.{CursorAt, Follows, Counted, Steps, cursor-first, steps}
+use Rattle.records.specs.Cursor.{CursorAt, Follows, Counted, steps}
 use Rattle.records.specs.Places.{Inputs, inputs-few}
 use Rattle.check_front.specs.declared.marks.Marks.{Marks}
 use Rattle.check_front.specs.Weighing.{PartnersOf}

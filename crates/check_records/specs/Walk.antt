@@ -8,10 +8,10 @@ use native.Mathlib.Omega.{arith}
 use lib.ListN.{length}
 use lib.IntN.{ℤ}
 use Rattle.foundations.specs.Lists.{every, every-step}
-use Rattle.model.specs.Certificate.{certificateLength, recordAt, subproblemOk}
+use Rattle.model.specs.Certificate.{recordAt, subproblemOk}
 use Rattle.model.specs.Lengths.{subproblemLength}
 use Rattle.model.specs.Limits.{pairLimit}
-use Rattle.model.specs.Order.{subproblems, width, offset}
+use Rattle.model.specs.Order.{subproblems, offset}
 use Rattle.plan.specs.Plan.{degreeIn}
 use Rattle.records.specs.Cursor.{CursorAt, CursorIn, Follows, Counted, cursor-in, steps}
 use Rattle.records.specs.Places.{found-known}

@@ -11,14 +11,14 @@ use Rattle.foundations.specs.Tests.{less?}
 use Rattle.model.specs.Certificate.{certificateLength, others, recordLength, recordAt}
 use Rattle.model.specs.Graph.{neighbours}
 use Rattle.model.specs.Lengths.{subproblemLength}
-use Rattle.model.specs.Limits.{vertexLimit, degreeLimit, certificateLimit}
-use Rattle.model.specs.Order.{children, choices, width, subproblems, offset, uAt, vAt, sAt}
+use Rattle.model.specs.Limits.{degreeLimit}
+use Rattle.model.specs.Order.{children, choices, width, subproblems, offset}
 use Rattle.model.specs.Tree.{count}
 use Rattle.certificate.specs.Length.{record-inside}
 use Rattle.plan.specs.Plan.{childCountIn, orderIn, degreeIn}
 use Rattle.plan.specs.Numbers.{offset-width, ready-sound}
-use Rattle.records.specs.Others.{othersOf, OthersAt, others-at, others-few}
-use Rattle.records.specs.Places.{Inputs, inputs-found, inputs-few, inputs-length, order-low, size-known, found-known, NumberAt, number-at}
+use Rattle.records.specs.Others.{othersOf, others-at, others-few}
+use Rattle.records.specs.Places.{Inputs, inputs-found, order-low, size-known, found-known, number-at}
 
 -- ---- the cursor of subproblem k: the i-th vertex in postorder, v, and the q-th choice of s
 

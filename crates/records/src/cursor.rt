@@ -1,7 +1,6 @@
 //! Going from record to record in their order: which subproblem's record comes next, and how long it is.
 use crate::others_of;
 use formats::tree::vertex_count;
-use lengths::subproblem;
 use plan::Plan;
 use plan::child_count;
 use plan::degree;

@@ -1,6 +1,6 @@
 -- `check_reader::marks` meets its contract: a walk of its MIR, by hand. The reader is a local of the function's own; in each turn the memory for the partners is
 -- lent again to `mark_step` for the call, the reader moves on to the place that `mark_step` gives, and the memory comes back. Assumes nothing.
-use mathlib.Core.Path.{_≡_, refl, ap}
+use mathlib.Core.Path.{refl, ap}
 use mathlib.Core.Bool.{Bool}
 use mathlib.Core.List.{[], _∷_, List}
 use mathlib.Core.Logic.{⊎-elim}
@@ -33,7 +33,7 @@ use denote.Plain.{uint-makes, bool-makes}
 use denote.Builtin.{u8, usize, bool, Array, ArrayOf}
 use denote.Ref.{RefT, MutRef, ShrRef, ptr-vals, mut-tells, shr-tells, shr-copy}
 use denote.Slice.{ShrSlice, sliceTy, sliceVal, slice-vals, shr-slice-tells, shr-slice-copy}
-use denote.Signature.{Slot, plain, mutRefTo, shrRefTo, shrSliceOf}
+use denote.Signature.{Slot, plain, shrRefTo, shrSliceOf}
 use denote.Steps.{only, owned, peeks, heard, nothing}
 use denote.Lend.{LentAgain, lends-again, comes-back}
 use denote.Struct.Laws as LL

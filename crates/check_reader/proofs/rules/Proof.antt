@@ -33,7 +33,7 @@ use denote.Plain.{uint-makes, bool-makes}
 use denote.Builtin.{u8, u32, u64, usize, bool, Array, ArrayOf}
 use denote.Ref.{RefT, MutRef, ShrRef, ptr-vals, mut-tells, shr-tells, shr-copy}
 use denote.Slice.{ShrSlice, sliceTy, sliceVal, slice-vals, shr-slice-tells, shr-slice-copy}
-use denote.Signature.{Slot, plain, mutRefTo, shrRefTo, shrSliceOf}
+use denote.Signature.{Slot, plain, shrRefTo, shrSliceOf}
 use denote.Steps.{only, owned, peeks, heard, nothing}
 use denote.Lend.{LentAgain, lends-again, comes-back}
 use denote.Struct.Laws as LL

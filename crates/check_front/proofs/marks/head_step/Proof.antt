@@ -2,7 +2,7 @@
 use native.Mathlib.Omega.{arith}
 use borrow.Author.Needs.{needs}
 use Rattle.trees.specs.Accepted.{whole}
-use Rattle.records.specs.Places.{inputs-recorded, inputs-found, inputs-length}
+use Rattle.records.specs.Places.{inputs-recorded, inputs-found}
 use Rattle.check_front.specs.Marks.{head-at, head-stepped}
 use Rattle.check_front.proofs.marks.head_step.Statement.{statement}
 use Rattle.check_front.proofs.marks.head_step.Tie as tie

@@ -1,5 +1,4 @@
 -- `note` meets its contract. Assumes nothing.
-use native.Mathlib.Omega.{arith}
 use borrow.Author.Needs.{needs}
 use Rattle.check_front.proofs.marks.note.Statement.{statement}
 use Rattle.check_front.proofs.marks.note.Tie as tie

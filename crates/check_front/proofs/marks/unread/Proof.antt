@@ -1,7 +1,6 @@
 -- `unread` meets its contract. Assumes nothing.
 use mathlib.Core.Path.{refl}
 use native.Mathlib.Omega.{arith}
-use borrow.Author.Needs.{needs}
 use Rattle.trees.specs.Accepted.{whole}
 use Rattle.records.specs.Cursor.{cursor-first}
 use Rattle.records.specs.Places.{inputs-recorded, inputs-found, inputs-few}

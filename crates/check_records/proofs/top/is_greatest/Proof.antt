@@ -1,6 +1,5 @@
 -- `is_greatest` compares the weight with the greatest value. Assumes nothing.
 use mathlib.Core.Path.{_∙_}
-use native.Mathlib.Omega.{arith}
 use borrow.Author.Needs.{needs}
 use Rattle.foundations.specs.Machine.{Same, back}
 use Rattle.check_records.specs.Greatest.{most-largest, long-head, zero-sum}

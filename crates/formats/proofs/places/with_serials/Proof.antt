@@ -1,6 +1,5 @@
 -- `with_serials` meets its contract. Assumes nothing.
 use mathlib.Core.Path.{_∙_}
-use native.Mathlib.Omega.{arith}
 use borrow.Author.Needs.{needs}
 use Rattle.model.specs.Tree.{withSerials}
 use Rattle.formats.proofs.places.with_serials.Statement.{statement}
