@@ -93,14 +93,14 @@ pub record Stepped (r f z : List ℕ) (m : Marks) (next : ℕ) (n : Marks) : Typ
   pub walked : Walked r f z next n
 
 -- none is passed yet
-pub record atHead (r f : List ℕ) (next : ℕ) (m : Marks) : Type 0 where
+pub record AtHead (r f : List ℕ) (next : ℕ) (m : Marks) : Type 0 where
   pub place : next ≡ 0
   pub number : m .number ≡ 0
   pub all : m .count ≡ count r + 1 + subproblems r f
   pub ok : m .ok ≡ true
   pub first : CursorAt f 0 (m .cursor .i) (m .cursor .v) (m .cursor .q)
 
-pub walked-none : {r f : List ℕ} {next : ℕ} {m : Marks} (z : List ℕ) → atHead r f next m → Walked r f z next m
+pub walked-none : {r f : List ℕ} {next : ℕ} {m : Marks} (z : List ℕ) → AtHead r f next m → Walked r f z next m
 unfolding placeOf every
 walked-none {r} {f} {next} {m} z H = record {
   all = H .all;
@@ -128,7 +128,7 @@ module _ {r f : List ℕ} {plan : List (List ℕ)} {z : List ℕ} {at : ℕ} {m 
   W : Walked r f z at m
   W = S .walked
 
-  -- the cursor stays before the first record
+  -- up to the first record the cursor stays where it is
   stays : m .number < count r + 1 → CursorAt f (m .number + 1 - (count r + 1)) (m .cursor .i) (m .cursor .v) (m .cursor .q)
   stays h =
       let a : m .number + 1 - (count r + 1) ≡ 0 = omega arith in
@@ -234,7 +234,7 @@ pub record Passing (r f p z : List ℕ) (m : Marks) (next : ℕ) (n : Marks) : T
 pub record Unread (r f : List ℕ) (plan : List (List ℕ)) (p z : List ℕ) (next : ℕ) (m : Marks) : Type 0 where
   pub inputs : Inputs r f plan
   pub long : length z ≡ certificateLength r f
-  pub head : atHead r f next m
+  pub head : AtHead r f next m
   pub room : length p ≡ vertexLimit
 
 -- the answer is item 20's, and the partners are the certificate's mapping

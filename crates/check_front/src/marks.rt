@@ -1,10 +1,10 @@
-//! Item 20, one record after the other: a mark, and in the head n and m. The marks are the fixed strings C1 01, C1 02 and C1 03. The partners are noted as
-//! they are passed.
+//! Item 20, one record after the other: a mark, and in the head n and m; the certificate's length is tested before (`check_reader`). The marks are the fixed
+//! strings C1 01, C1 02 and C1 03. The partners are noted as they are passed.
 use formats::marks::is_mark;
 use formats::tree::vertex_count;
-use lengths::head;
-use lengths::partner;
-use lengths::subproblem;
+use lengths::certificate_head_length;
+use lengths::partner_length;
+use lengths::subproblem_length;
 use model::Mapping;
 use plan::Plan;
 use plan::counts::subproblem_count;
@@ -21,7 +21,7 @@ ghost use Rattle.model.specs.Bytes.{byteAt, isMark};
 ghost use Rattle.model.specs.Certificate.{headMark, partnerMark, recordMark};
 ghost use Rattle.model.specs.Tree.{count};
 ghost use Rattle.records.specs.Places.{Inputs};
-ghost use Rattle.check_front.specs.Marks.{movedOn, Stepping, Stepped, Reading, Passing, atHead, NotedAt};
+ghost use Rattle.check_front.specs.Marks.{movedOn, Stepping, Stepped, Reading, Passing, AtHead, NotedAt};
 
 // How far the certificate is read: the records passed, of how many, and whether each of them is as it must be; the cursor of the subproblem whose record
 // comes next.
@@ -41,7 +41,7 @@ pub struct MarkStep {
 // Nothing is read yet: the head, a partner for each recorded vertex and a record for each subproblem are to come.
 pub fn unread(recorded: &[u8], found: &[u8], plan: &Plan) -> MarkStep
     requires { ⌜ Inputs (now recorded) (now found) (now plan) ⌝ }
-    ensures { λ r. ⌜ atHead (now (recorded .entry)) (now (found .entry)) (r .next) (r .marks) ⌝ }
+    ensures { λ r. ⌜ AtHead (now (recorded .entry)) (now (found .entry)) (r .next) (r .marks) ⌝ }
 {
     let count = 1 + vertex_count(recorded) + subproblem_count(recorded, found);
     let cursor = Cursor { i: 0, v: 0, q: 0 };
@@ -95,6 +95,7 @@ fn is_record(z: &[u8], at: usize) -> bool
     is_mark(z, at, b"\xC1\x03")
 }
 
+// Past the head.
 fn head_step(recorded: &[u8], found: &[u8], plan: &Plan, z: &[u8], at: usize, m: Marks) -> MarkStep
     requires { ⌜ Stepping (now recorded) (now found) (now plan) (now z) at m ⌝ }
     requires { ⌜ m .number ≡ 0 ⌝ }
@@ -103,11 +104,12 @@ fn head_step(recorded: &[u8], found: &[u8], plan: &Plan, z: &[u8], at: usize, m:
     let here = is_head(z, at, vertex_count(recorded), vertex_count(found));
     let marks = moved(m, here, m.cursor);
     MarkStep {
-        next: at + head(),
+        next: at + certificate_head_length(),
         marks: marks,
     }
 }
 
+// Past a partner.
 fn partner_step(
     recorded: &[u8],
     found: &[u8],
@@ -123,11 +125,12 @@ fn partner_step(
     let here = is_partner(z, at);
     let marks = moved(m, here, m.cursor);
     MarkStep {
-        next: at + partner(),
+        next: at + partner_length(),
         marks: marks,
     }
 }
 
+// Past a subproblem's record.
 fn record_step(
     recorded: &[u8],
     found: &[u8],
@@ -145,7 +148,7 @@ fn record_step(
     let here = is_record(z, at);
     let marks = moved(m, here, c);
     MarkStep {
-        next: at + subproblem(n.children as u8, n.others as u8),
+        next: at + subproblem_length(n.children as u8, n.others as u8),
         marks: marks,
     }
 }

@@ -50,10 +50,10 @@ module _ {table r f : List ℕ} {plan places : List (List ℕ)} {z : List ℕ} (
     Q : Pair r f (orderIn plan i) v
     Q = row-pair i v (R .row) (R .low)
 
-    pub read-degree : degreeIn plan v ≡ length (neighbours f v)
+    read-degree : degreeIn plan v ≡ length (neighbours f v)
     read-degree = degree-is (G .ready) Q
 
-    pub read-few : length (neighbours f v) ≤ degreeLimit
+    read-few : length (neighbours f v) ≤ degreeLimit
     read-few = degree-few (G .ready) Q
 
     record-is : {k s here n l q : ℕ} (t : Bool) → isForbidden w ≡ t → RecordIs r f k (orderIn plan i) v s here n l → OthersAt f v q s → recordIn z here n l q g w ≡ subproblemOk table r f z k

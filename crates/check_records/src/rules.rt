@@ -1,6 +1,6 @@
 //! Item 23, one record after the other: the rules of a subproblem's record. The gains of a pair of vertices are read once, for every choice of s.
 use crate::gains::gains;
-use lengths::subproblem;
+use lengths::subproblem_length;
 use model::Gains;
 use plan::Plan;
 use plan::counts::subproblem_count;
@@ -101,7 +101,7 @@ pub fn rule_step(
         weight: w,
     };
     RuleStep {
-        next: at + subproblem(n.children as u8, n.others as u8),
+        next: at + subproblem_length(n.children as u8, n.others as u8),
         rules: rules,
     }
 }

@@ -20,12 +20,12 @@ use Rattle.formats.specs.declared.table.Block.{Block}
 
 -- ---- lengths: the products, which `omega` takes as they stand
 
--- k rows of w bytes each: k is a byte, and a row is far shorter than w may be
+-- k rows of w bytes: k is a byte, and no row has 2^16 bytes
 pub rows-small : (k w : ℕ) → k < 256 → w < 2 ^ 16 → k * w < 2 ^ 24
 rows-small k w h l = let a : k ≤ 255 = omega arith in let b : w ≤ 65535 = omega arith in let p : k * w ≤ 255 * 65535 = mul-le-mul a b in omega arith
 
 -- where the edge rows of a table of k vertex labels start
-pub record EdgeStart (k r : ℕ) : Type 0 where
+pub record EdgeRowsStart (k r : ℕ) : Type 0 where
   pub is : r ≡ tableHeadLength + k * vertexRowLength k
   pub small : r < tableHeadLength + 2 ^ 24
 

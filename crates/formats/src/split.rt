@@ -4,7 +4,7 @@ use crate::marks::is_mark;
 use crate::places::tree_size;
 use crate::table::table_size;
 use integers::lesser;
-use lengths::tree_head;
+use lengths::tree_head_length;
 ghost use mathlib.Core.Path.{_≡_};
 ghost use Rattle.model.specs.Table.{tableLength};
 ghost use Rattle.model.specs.Input.{lengthKnown, treeLength};
@@ -26,7 +26,7 @@ fn table_length(input: &[u8]) -> usize
 fn is_length_known(s: &[u8]) -> bool
     ensures { λ r. ⌜ r ≡ lengthKnown (now (s .entry)) ⌝ }
 {
-    let first = tree_head();
+    let first = tree_head_length();
     if s.len() < first + 2 {
         return false;
     }

@@ -1,8 +1,8 @@
 //! The weight table: items 1 and 2, and access to a table that passes them. After its head it has two blocks of rows, K vertex rows of K weights and L edge
 //! rows of L weights.
-use lengths::edge_row;
-use lengths::table_head;
-use lengths::vertex_row;
+use lengths::edge_row_length;
+use lengths::table_head_length;
+use lengths::vertex_row_length;
 use model::Limits;
 ghost use mathlib.Core.Path.{_≡_};
 ghost use Prim.Native.Nat.{_+_, _<_, _≤_, _^_};
@@ -10,7 +10,7 @@ ghost use Rattle.foundations.specs.Lists.{every};
 ghost use Rattle.model.specs.Bytes.{isMark, int32At};
 ghost use Rattle.model.specs.Weights.{weightOk};
 ghost use Rattle.model.specs.Table.{vertexLabels, edgeLabels, vertexRow, edgeRow, column, tableSized, tableMarked, rowOk, weightsOk, tableItem};
-ghost use Rattle.formats.specs.Table.{EdgeStart, tableSize, vertexBlock, edgeBlock, rowStart, BlockOf, BlockIn, RowAt, TableSized};
+ghost use Rattle.formats.specs.Table.{EdgeRowsStart, tableSize, vertexBlock, edgeBlock, rowStart, BlockOf, BlockIn, RowAt, TableSized};
 
 // A block of rows: where its first row stands, how many rows it has, each of as many weights, and how many bytes a row has.
 struct Block {
@@ -20,24 +20,24 @@ struct Block {
 }
 
 // Where the edge rows of a table of k vertex labels start.
-fn edge_start(k: u8) -> usize
-    ensures { λ r. ⌜ EdgeStart k r ⌝ }
+fn edge_rows_start(k: u8) -> usize
+    ensures { λ r. ⌜ EdgeRowsStart k r ⌝ }
 {
-    table_head() + (k as usize) * vertex_row(k)
+    table_head_length() + (k as usize) * vertex_row_length(k)
 }
 
 // The length of a table of k vertex labels and l edge labels.
 pub(crate) fn table_size(k: u8, l: u8) -> usize
     ensures { λ r. ⌜ r ≡ tableSize k l ⌝ }
 {
-    edge_start(k) + (l as usize) * edge_row(l)
+    edge_rows_start(k) + (l as usize) * edge_row_length(l)
 }
 
 // The head's numbers and the length.
 fn is_sized(table: &[u8]) -> bool
     ensures { λ r. ⌜ r ≡ tableSized (now (table .entry)) ⌝ }
 {
-    if table.len() < table_head() {
+    if table.len() < table_head_length() {
         return false;
     }
     let k = table[2];
@@ -70,9 +70,9 @@ fn vertex_block(table: &[u8]) -> Block
 {
     let k = vertex_labels(table);
     Block {
-        start: table_head(),
+        start: table_head_length(),
         rows: k,
-        row: vertex_row(k),
+        row: vertex_row_length(k),
     }
 }
 
@@ -84,9 +84,9 @@ fn edge_block(table: &[u8]) -> Block
     let k = vertex_labels(table);
     let l = edge_labels(table);
     Block {
-        start: edge_start(k),
+        start: edge_rows_start(k),
         rows: l,
-        row: edge_row(l),
+        row: edge_row_length(l),
     }
 }
 

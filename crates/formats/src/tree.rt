@@ -5,7 +5,7 @@ use crate::places::tree_size;
 use crate::places::vertex_start;
 use crate::places::with_serials;
 use crate::serials::do_serials_differ;
-use lengths::tree_head;
+use lengths::tree_head_length;
 use model::Limits;
 use model::VertexTable;
 ghost use Prim.Native.Nat.{_+_, _≤_, _<_, _-_};
@@ -62,7 +62,7 @@ pub fn vertex_label(s: &[u8], n: usize, v: usize) -> u8
 fn is_sized(s: &[u8]) -> bool
     ensures { λ r. ⌜ r ≡ sized (now (s .entry)) ⌝ }
 {
-    if s.len() < tree_head() + 2 {
+    if s.len() < tree_head_length() + 2 {
         return false;
     }
     let n = s[2];

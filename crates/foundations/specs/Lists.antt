@@ -3,7 +3,7 @@ use mathlib.Core.Path.{_≡_, refl, sym, ap, _∙_}
 use mathlib.Core.Logic.{⊎-elim}
 use mathlib.Core.Bool.{Bool, true, false, _&&_, cond}
 use mathlib.Core.List.{List, [], _∷_, _++_, append-assoc, append-nil}
-use Prim.Native.Nat.{ℕ, zero, suc, _+_, _*_, _-_, _≤_, _<_, min}
+use Prim.Native.Nat.{ℕ, zero, suc, _+_, _-_, _≤_, _<_, min}
 use native.Mathlib.Omega.{arith}
 use native.Mathlib.Decide.{ℕ-discrete}
 use native.Mathlib.Numerals.{add-one}
@@ -67,17 +67,6 @@ pub every-sum : (p : ℕ → Bool) (a b : ℕ) → every p (a + b) ≡ (every p 
 unfolding every
 every-sum p a zero = let e : a + 0 ≡ a = omega arith in rw e (and-one (every p a))
 every-sum p a (suc b) = let e : a + suc b ≡ suc (a + b) = omega arith in rw (e, every-sum p a b) (sym (and-assoc (every p a) (every (λ k. p (a + k)) b) (p (a + b))))
-
--- over i rows of w numbers, with those of row i
-pub every-row : (p : ℕ → Bool) (w i : ℕ) (ok t : Bool) → ok ≡ every p (i * w) → t ≡ every (λ k. p (i * w + k)) w → (ok && t) ≡ every p ((i + 1) * w)
-every-row p w i ok t a b = rw (a, b) (sym (every-sum p (i * w) w) ∙ sym (ap (every p) (next i w)))
-  where
-    next : (i w : ℕ) → (i + 1) * w ≡ i * w + w
-    next i w = rw (add-one i) (omega arith)
-
-pub every-no-row : (p : ℕ → Bool) (w : ℕ) → true ≡ every p (0 * w)
-unfolding every
-every-no-row p w = let e : 0 * w ≡ 0 = omega arith in rw e
 
 -- ---- the values of f at 0, 1, .. below k
 

@@ -1,6 +1,6 @@
 -- The lengths computed, held against the papers: K = 2, L = 3, a subproblem with one child and two others. Assumes nothing.
 use mathlib.Core.Path.{_≡_, refl}
-use mathlib.Core.List.{List, [], _∷_}
+use mathlib.Core.List.{[], _∷_}
 use Prim.Native.Nat.{ℕ}
 use Rattle.model.specs.Lengths.{lengthByMark}
 use Rattle.model.specs.declared.RecordLength.{RecordLength}

@@ -5,9 +5,9 @@ ghost use mathlib.Core.Path.{_≡_};
 ghost use Rattle.model.specs.Lengths.{treeHeadLength, vertexLength, edgeLength, tableHeadLength, vertexRowLength, edgeRowLength, serialVertexLength, certificateHeadLength, partnerLength, subproblemLength, lengthByMark};
 ghost use Rattle.lengths.specs.Bytes.{bytesOf};
 
-// The record whose mark is a, b. A row's length hangs on the table's K or L, that of a subproblem's record on the number of children of u and of neighbours
+// How long the record with the mark a, b is. A row's length hangs on the table's K or L, that of a subproblem's record on the number of children of u and of neighbours
 // of v other than s; the other lengths hang on none of these.
-pub fn record_length(a: u8, b: u8, k: u8, l: u8, children: u8, others: u8) -> RecordLength
+fn length_by_mark(a: u8, b: u8, k: u8, l: u8, children: u8, others: u8) -> RecordLength
     ensures { λ r. ⌜ r ≡ lengthByMark a b k l children others ⌝ }
 {
     match a {
@@ -43,62 +43,62 @@ fn bytes(r: RecordLength) -> usize
 
 // ---- a record of each kind
 
-pub fn tree_head() -> usize
+pub fn tree_head_length() -> usize
     ensures { λ r. ⌜ r ≡ treeHeadLength ⌝ }
 {
-    bytes(record_length(0xB1, 0x01, 0, 0, 0, 0))
+    bytes(length_by_mark(0xB1, 0x01, 0, 0, 0, 0))
 }
 
-pub fn vertex() -> usize
+pub fn vertex_length() -> usize
     ensures { λ r. ⌜ r ≡ vertexLength ⌝ }
 {
-    bytes(record_length(0xB1, 0x02, 0, 0, 0, 0))
+    bytes(length_by_mark(0xB1, 0x02, 0, 0, 0, 0))
 }
 
-pub fn edge() -> usize
+pub fn edge_length() -> usize
     ensures { λ r. ⌜ r ≡ edgeLength ⌝ }
 {
-    bytes(record_length(0xB1, 0x03, 0, 0, 0, 0))
+    bytes(length_by_mark(0xB1, 0x03, 0, 0, 0, 0))
 }
 
-pub fn table_head() -> usize
+pub fn table_head_length() -> usize
     ensures { λ r. ⌜ r ≡ tableHeadLength ⌝ }
 {
-    bytes(record_length(0xB1, 0x04, 0, 0, 0, 0))
+    bytes(length_by_mark(0xB1, 0x04, 0, 0, 0, 0))
 }
 
-pub fn vertex_row(k: u8) -> usize
+pub fn vertex_row_length(k: u8) -> usize
     ensures { λ r. ⌜ r ≡ vertexRowLength k ⌝ }
 {
-    bytes(record_length(0xB1, 0x05, k, 0, 0, 0))
+    bytes(length_by_mark(0xB1, 0x05, k, 0, 0, 0))
 }
 
-pub fn edge_row(l: u8) -> usize
+pub fn edge_row_length(l: u8) -> usize
     ensures { λ r. ⌜ r ≡ edgeRowLength l ⌝ }
 {
-    bytes(record_length(0xB1, 0x06, 0, l, 0, 0))
+    bytes(length_by_mark(0xB1, 0x06, 0, l, 0, 0))
 }
 
-pub fn serial_vertex() -> usize
+pub fn serial_vertex_length() -> usize
     ensures { λ r. ⌜ r ≡ serialVertexLength ⌝ }
 {
-    bytes(record_length(0xB1, 0x07, 0, 0, 0, 0))
+    bytes(length_by_mark(0xB1, 0x07, 0, 0, 0, 0))
 }
 
-pub fn head() -> usize
+pub fn certificate_head_length() -> usize
     ensures { λ r. ⌜ r ≡ certificateHeadLength ⌝ }
 {
-    bytes(record_length(0xC1, 0x01, 0, 0, 0, 0))
+    bytes(length_by_mark(0xC1, 0x01, 0, 0, 0, 0))
 }
 
-pub fn partner() -> usize
+pub fn partner_length() -> usize
     ensures { λ r. ⌜ r ≡ partnerLength ⌝ }
 {
-    bytes(record_length(0xC1, 0x02, 0, 0, 0, 0))
+    bytes(length_by_mark(0xC1, 0x02, 0, 0, 0, 0))
 }
 
-pub fn subproblem(children: u8, others: u8) -> usize
+pub fn subproblem_length(children: u8, others: u8) -> usize
     ensures { λ r. ⌜ r ≡ subproblemLength children others ⌝ }
 {
-    bytes(record_length(0xC1, 0x03, 0, 0, children, others))
+    bytes(length_by_mark(0xC1, 0x03, 0, 0, children, others))
 }

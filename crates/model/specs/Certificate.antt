@@ -33,8 +33,8 @@ partnerMark = 0xC1 ∷ 0x02 ∷ []
 abbrev pub recordMark : List ℕ
 recordMark = 0xC1 ∷ 0x03 ∷ []
 
--- ---- the length: "8 + 3n + 6n(3m - 2) + 4(n - 1)(3m - 2) + 4n times the sum of squares" of the found vertices' degrees: the records of
--- all subproblems, as if without duals, then 4 bytes for each dual of a child and for each of a neighbour
+-- ---- the length: "8 + 3n + 6n(3m - 2) + 4(n - 1)(3m - 2) + 4n times the sum of squares" of the found vertices' degrees: the head,
+-- the partners, the records of all subproblems as if without duals, then 4 bytes for each dual of a child and for each of a neighbour
 
 unfoldable pub squares : List ℕ → ℕ → ℕ
 squares f zero = 0

@@ -9,7 +9,7 @@ use lib.Dec.{eqb}
 use Rattle.model.specs.declared.RecordLength.{RecordLength}
 use Rattle.model.specs.declared.RecordLength.the-variants.{Bytes, Unknown}
 
--- ---- the bytes of each record by the number of its mark: 2 are the mark, a weight, a value, a bound and a serial have 4, all else has 1
+-- ---- the bytes of each record, in the order of the marks: 2 are the mark, a weight, a value, a bound and a serial have 4, all else has 1
 
 -- B1 01, layout head: n
 abbrev pub treeHeadLength : ℕ

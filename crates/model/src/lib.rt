@@ -1,4 +1,4 @@
-//! The public constants and answers of the library. What the bytes, items and orders of the papers mean is in specs/, as definitions.
+//! The public constants and answers of the library, and the length of a record. What the bytes, items and orders of the papers mean is in specs/, as definitions.
 
 ghost use mathlib.Core.Path.{_≡_};
 ghost use lib.IntN.{pos};

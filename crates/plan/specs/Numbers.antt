@@ -1,8 +1,7 @@
 -- Where a subproblem stands among all: the found vertex whose part of a row a number lies in, the choice that s is for v, and the three vertices of a
 -- subproblem's number. Assumes nothing.
-use mathlib.Core.Path.{_≡_, refl, sym, ap, _∙_}
+use mathlib.Core.Path.{_≡_, ap, _∙_}
 use mathlib.Core.Logic.{⊎-elim}
-use mathlib.Core.Bool.{Bool, true, _&&_}
 use mathlib.Core.List.{List}
 use Prim.Native.Nat.{ℕ, zero, suc, _+_, _-_, _*_, _/_, _%_, _≤_, _<_}
 use native.Mathlib.Omega.{arith}
@@ -11,7 +10,6 @@ use native.Mathlib.Nat.{not-suc-le-zero, div-lt-iff-lt-mul, mod-lt, mul-le-mul}
 use lib.ListN.{length, getD}
 use borrow.Author.Tests.{le-leb, lt-leb}
 use Rattle.foundations.specs.Tests.{same?}
-use Rattle.foundations.specs.Lists.{every, every-sum}
 use Rattle.model.specs.Limits.{vertexLimit, widthLimit, subproblemLimit}
 use Rattle.model.specs.Tree.{count}
 use Rattle.model.specs.Graph.{neighbours}
@@ -57,18 +55,6 @@ module _ (f : List ℕ) (starts : ℕ → ℕ) (offsets : (v : ℕ) → v < coun
     where
       first : offset f 0 ≤ rest
       first = unfold offset in omega arith
-
--- ---- a test of the subproblems of one recorded vertex, found vertex by found vertex
-
-pub every-vertex : (p : ℕ → Bool) (f : List ℕ) (v d : ℕ) (ok t : Bool) → d ≡ length (neighbours f v) → ok ≡ every p (offset f v) → t ≡ every (λ q. p (offset f v + q)) (d + 1) → (ok && t) ≡ every p (offset f (v + 1))
-unfolding offset
-every-vertex p f v d ok t ed a b =
-    let e : offset f (v + 1) ≡ offset f v + (d + 1) = (let s : offset f (v + 1) ≡ offset f v + suc (length (neighbours f v)) = rw (add-one v) in omega arith) in
-    rw (a, b) (sym (every-sum p (offset f v) (d + 1)) ∙ sym (ap (every p) e))
-
-pub every-no-vertex : (p : ℕ → Bool) (f : List ℕ) → true ≡ every p (offset f 0)
-unfolding offset every
-every-no-vertex p f = refl
 
 pub offset-width : {s : List ℕ} → Sound s → offset s (count s) ≡ width s
 offset-width {s} S = offset-all s (S .passed .ends) (S .passed .tree)

@@ -1,8 +1,8 @@
 //! Storing the front of a certificate: the head, and a partner for each recorded vertex.
 use crate::put_mark;
 use crate::put_number;
-use lengths::head;
-use lengths::partner;
+use lengths::certificate_head_length;
+use lengths::partner_length;
 use model::Mapping;
 ghost use Prim.Native.Nat.{_+_, _≤_};
 ghost use lib.ListN.{length};
@@ -38,11 +38,11 @@ fn put_partners(d: &mut [u8], mapping: &Mapping, n: usize)
     requires { ⌜ n ≤ vertexLimit ⌝ }
     ensures { λ _. ⌜ PartnersPut n (now (mapping .entry)) (now (d .entry)) (now (d .exit)) ⌝ }
 {
-    let mut at = head();
+    let mut at = certificate_head_length();
     let mut i = 0;
     while i < n {
         put_partner(d, at, mapping[i]);
-        at += partner();
+        at += partner_length();
         i += 1;
     }
 }

@@ -1,4 +1,4 @@
-//! Going from record to record in their order: which subproblem's record comes next, and how long it is.
+//! Going from record to record in their order: which subproblem's record comes next, and the counts that its length hangs on.
 use crate::others_of;
 use formats::tree::vertex_count;
 use plan::Plan;
@@ -14,7 +14,7 @@ pub struct Cursor {
     pub q: usize,
 }
 
-// That of the next subproblem; after the last, that of a vertex more.
+// The cursor of the next subproblem; after the last, i is the number of recorded vertices.
 pub fn next(recorded: &[u8], found: &[u8], plan: &Plan, c: Cursor) -> Cursor
     requires { ⌜ CursorIn (now recorded) (now found) (now plan) (c .i) (c .v) (c .q) ⌝ }
     ensures { λ r. ⌜ Follows (now (found .entry)) (c .i) (c .v) (c .q) (r .i) (r .v) (r .q) ⌝ }

@@ -3,9 +3,9 @@
 pub mod cursor;
 
 use formats::tree::vertex_count;
-use lengths::head;
-use lengths::partner;
-use lengths::subproblem;
+use lengths::certificate_head_length;
+use lengths::partner_length;
+use lengths::subproblem_length;
 use model::Limits;
 use plan::Plan;
 use plan::child_count;
@@ -97,7 +97,7 @@ pub fn size(plan: &Plan, i: usize) -> usize
     ensures { λ r. ⌜ r ≡ subproblemLength (childCountIn (now (plan .entry)) (orderIn (now (plan .entry)) i)) 0 ⌝ }
 {
     let children = child_count(plan, in_order(plan, i));
-    subproblem(children as u8, 0)
+    subproblem_length(children as u8, 0)
 }
 
 // Where the records of a certificate of n recorded vertices begin: after the head and n partners.
@@ -105,7 +105,7 @@ pub fn records_begin(n: usize) -> usize
     requires { ⌜ n ≤ vertexLimit ⌝ }
     ensures { λ r. ⌜ r ≡ partnerAt n ⌝ }
 {
-    head() + partner() * n
+    certificate_head_length() + partner_length() * n
 }
 
 // The sums of squares, each in its place.
@@ -164,7 +164,7 @@ pub fn record_in(
     requires { ⌜ Laid (now recorded) (now found) (now plan) (now places) ⌝ }
     requires { ⌜ RowBegins (now recorded) (now found) i first own ⌝ }
     requires { ⌜ (v < count (now found)) × (q ≤ length (neighbours (now found) v)) ⌝ }
-    ensures { λ r. ⌜ (r ≡ recordAt (now (recorded .entry)) (now (found .entry)) (i * width (now (found .entry)) + (offset (now (found .entry)) v + q))) × (r + 6 ≤ certificateLimit) ⌝ }
+    ensures { λ r. ⌜ (r ≡ recordAt (now (recorded .entry)) (now (found .entry)) (i * width (now (found .entry)) + (offset (now (found .entry)) v + q))) × (r + subproblemLength 0 0 ≤ certificateLimit) ⌝ }
 {
     let o = others_before(degree(plan, v), q);
     first + (offset_of(plan, v) + q) * own + 4 * (squares(places, v) + o)

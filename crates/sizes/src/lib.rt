@@ -3,9 +3,9 @@
 use formats::inputs::input_item;
 use formats::tree::degrees;
 use formats::tree::vertex_count;
-use lengths::head;
-use lengths::partner;
-use lengths::subproblem;
+use lengths::certificate_head_length;
+use lengths::partner_length;
+use lengths::subproblem_length;
 use model::SizesAnswer;
 use plan::counts::subproblem_count;
 use plan::counts::width_of;
@@ -44,7 +44,11 @@ fn certificate_length(recorded: &[u8], found: &[u8]) -> usize
     let all = subproblem_count(recorded, found);
     let width = width_of(found);
     let squares = square_sum(found);
-    head() + partner() * n + subproblem(0, 0) * all + 4 * ((n - 1) * width) + 4 * (n * squares)
+    certificate_head_length()
+        + partner_length() * n
+        + subproblem_length(0, 0) * all
+        + 4 * ((n - 1) * width)
+        + 4 * (n * squares)
 }
 
 // Entry point.

@@ -3,7 +3,7 @@ use duals::Duals;
 use duals::duals_of;
 use duals::pair_gains;
 use formats::tree::vertex_count;
-use lengths::subproblem;
+use lengths::subproblem_length;
 use model::Limits;
 use model::WideRow;
 use plan::Plan;
@@ -65,7 +65,7 @@ fn put_one(
     let l = others_of(d, q);
     let others = others_row(&neighbours, l, q);
     put_record(certificate, at, value, &children, k, &others, l);
-    at + subproblem(k as u8, l as u8)
+    at + subproblem_length(k as u8, l as u8)
 }
 
 // Stores the records of the i-th vertex in postorder and v from `at` on, one for each choice of s. Gives the place after the last.

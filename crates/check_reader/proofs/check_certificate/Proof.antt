@@ -1,4 +1,4 @@
--- `check_certificate` tests the items of every call, makes the plan, and hands on to the items 20 to 24. Assumes nothing.
+-- `check_certificate` tests the items of every call, makes the plan and the places, and hands on to the items 20 to 24. Assumes nothing.
 use mathlib.Core.Path.{_≡_, refl, sym, _∙_}
 use borrow.Author.Needs.{needs}
 use Rattle.model.specs.Calls.{inputItem}

@@ -5,11 +5,11 @@ use borrow.Author.Needs.{needs}
 use Rattle.records.proofs.size.Statement.{statement}
 use Rattle.records.proofs.size.Tie as tie
 
-cast-subproblem : tie.Need-cast-subproblem
-cast-subproblem c = let e = rw (c .before .in-order .ensures) at (c .child-count .ensures) in omega arith
+cast-subproblem-length : tie.Need-cast-subproblem-length
+cast-subproblem-length c = let e = rw (c .before .in-order .ensures) at (c .child-count .ensures) in omega arith
 
 returns : tie.Need-returns
-returns c = let e = rw (c .before .before .in-order .ensures) at (c .before .child-count .ensures) in c .subproblem .ensures ∙ rw e
+returns c = let e = rw (c .before .before .in-order .ensures) at (c .before .child-count .ensures) in c .subproblem-length .ensures ∙ rw e
 
 pub size-spec : {M : Type 1} → statement M
-size-spec = tie.close (tie.spec (λ c κs. search needs) (λ c κs. search needs) cast-subproblem (λ c κs. search needs) returns)
+size-spec = tie.close (tie.spec (λ c κs. search needs) (λ c κs. search needs) cast-subproblem-length (λ c κs. search needs) returns)

@@ -10,7 +10,7 @@ use Rattle.sizes.proofs.certificate_length.Statement.{statement}
 use Rattle.sizes.proofs.certificate_length.Tie as tie
 
 -- the sum, and that it is small
-whole : (c : tie.After-subproblem) →
+whole : (c : tie.After-subproblem-length) →
     let at-partner = c .before in
     let at-head = at-partner .before in
     let at-squares = at-head .before in
@@ -19,9 +19,9 @@ whole : (c : tie.After-subproblem) →
     let at-vertices = at-count .before in
     let a = at-vertices .before .before .before .args in
     let n = at-vertices .vertex-count .result in
-    let h = at-head .head .result in
-    let p = at-partner .partner .result in
-    let s = c .subproblem .result in
+    let h = at-head .certificate-head-length .result in
+    let p = at-partner .partner-length .result in
+    let s = c .subproblem-length .result in
     (h + p * n + s * at-count .subproblem-count .result + 4 * ((n - 1) * at-width .width-of .result) + 4 * (n * at-squares .square-sum .result) ≡ certificateLength (a .recorded .now) (a .found .now)) × (certificateLength (a .recorded .now) (a .found .now) ≤ certificateLimit)
 whole c =
     let at-partner = c .before in
@@ -31,15 +31,15 @@ whole c =
     let at-count = at-width .before in
     let at-vertices = at-count .before in
     let s = at-vertices .before .before .before in (
-      rw (at-head .head .ensures, at-partner .partner .ensures, c .subproblem .ensures) (length-parts (s .args .recorded .now) (s .args .found .now) (at-vertices .vertex-count .ensures) (at-count .subproblem-count .ensures .0) (at-width .width-of .ensures .0) (at-squares .square-sum .ensures .0)),
+      rw (at-head .certificate-head-length .ensures, at-partner .partner-length .ensures, c .subproblem-length .ensures) (length-parts (s .args .recorded .now) (s .args .found .now) (at-vertices .vertex-count .ensures) (at-count .subproblem-count .ensures .0) (at-width .width-of .ensures .0) (at-squares .square-sum .ensures .0)),
       length-low (s .pre .0) (s .pre .1),
     )
 
 mul-result : tie.Need-mul-result
-mul-result c = rw (c .partner .ensures) (search needs)
+mul-result c = rw (c .partner-length .ensures) (search needs)
 
 add-result : tie.Need-add-result
-add-result c = rw (c .partner .ensures) (search needs)
+add-result c = rw (c .partner-length .ensures) (search needs)
 
 returns : tie.Need-returns
 returns c = let h = whole c in (h .0, rw (h .0) (h .1))

@@ -20,12 +20,12 @@ moved-requires : tie.Need-moved-requires
 moved-requires c κs = c .before .before .before .before .before .before .pre .0 .more
 
 add-t10 : tie.Need-add-t10
-add-t10 c = let p = c .before .before .before .before .before .before .before .before .pre in omega (arith, c .head .ensures, head-at (p .0) (p .1) .0)
+add-t10 c = let p = c .before .before .before .before .before .before .before .before .pre in omega (arith, c .certificate-head-length .ensures, head-at (p .0) (p .1) .0)
 
 returns : tie.Need-returns
 returns c =
     let p = c .before .before .before .before .before .before .before .before .pre in
-    rw (c .before .moved .ensures) (head-stepped (p .0) (p .1) _ _ _ _ (c .before .before .before .before .vertex-count .ensures) (c .before .before .before .vertex-count2 .ensures) (c .head .ensures) (c .before .before .is-head .ensures))
+    rw (c .before .moved .ensures) (head-stepped (p .0) (p .1) _ _ _ _ (c .before .before .before .before .vertex-count .ensures) (c .before .before .before .vertex-count2 .ensures) (c .certificate-head-length .ensures) (c .before .before .is-head .ensures))
 
 pub head-step-spec : {M : Type 1} → statement M
 head-step-spec = tie.close (tie.spec vertex-count-requires vertex-count-requires-2 is-head-requires moved-requires (λ c κs. search needs) add-t10 returns)

@@ -24,10 +24,10 @@ moved-requires : tie.Need-moved-requires
 moved-requires c κs = c .before .before .before .before .pre .0 .more
 
 add-t10 : tie.Need-add-t10
-add-t10 c = let s = c .before .before .before .before .before .before in omega (arith, c .partner .ensures, partner-at (s .pre .0) _ (is s) (low s) .0, low s, inputs-few (s .pre .0 .inputs) .0)
+add-t10 c = let s = c .before .before .before .before .before .before in omega (arith, c .partner-length .ensures, partner-at (s .pre .0) _ (is s) (low s) .0, low s, inputs-few (s .pre .0 .inputs) .0)
 
 returns : tie.Need-returns
-returns c = let s = c .before .before .before .before .before .before in rw (c .before .moved .ensures) (partner-stepped (s .pre .0) _ (is s) (low s) _ _ (c .partner .ensures) (c .before .before .is-partner .ensures))
+returns c = let s = c .before .before .before .before .before .before in rw (c .before .moved .ensures) (partner-stepped (s .pre .0) _ (is s) (low s) _ _ (c .partner-length .ensures) (c .before .before .is-partner .ensures))
 
 pub partner-step-spec : {M : Type 1} → statement M
 partner-step-spec = tie.close (tie.spec is-partner-requires moved-requires (λ c κs. search needs) add-t10 returns)

@@ -24,17 +24,17 @@ is-record-requires c κs = let s = c .before .before .before .before .before in 
 moved-requires : tie.Need-moved-requires
 moved-requires c κs = c .before .before .before .before .before .before .pre .0 .more
 
-cast-subproblem : tie.Need-cast-subproblem
-cast-subproblem c = omega (arith, c .before .before .before .before .counts-of .ensures .rows-few)
+cast-subproblem-length : tie.Need-cast-subproblem-length
+cast-subproblem-length c = omega (arith, c .before .before .before .before .counts-of .ensures .rows-few)
 
-cast-subproblem-2 : tie.Need-cast-subproblem-2
-cast-subproblem-2 c = omega (arith, c .before .before .before .before .before .counts-of .ensures .columns-few)
+cast-subproblem-length-2 : tie.Need-cast-subproblem-length-2
+cast-subproblem-length-2 c = omega (arith, c .before .before .before .before .before .counts-of .ensures .columns-few)
 
 add-t14 : tie.Need-add-t14
-add-t14 c = let s = c .before .before .before .before .before .before .before .before .before .before in omega (arith, c .subproblem .ensures, record-at (s .pre .0) _ (is s) (c .before .before .before .before .before .before .counts-of .ensures), s .pre .0 .long, inputs-length (s .pre .0 .inputs))
+add-t14 c = let s = c .before .before .before .before .before .before .before .before .before .before in omega (arith, c .subproblem-length .ensures, record-at (s .pre .0) _ (is s) (c .before .before .before .before .before .before .counts-of .ensures), s .pre .0 .long, inputs-length (s .pre .0 .inputs))
 
 returns : tie.Need-returns
-returns c = let s = c .before .before .before .before .before .before .before .before .before .before in rw (c .before .before .before .moved .ensures) (record-stepped (s .pre .0) _ (is s) (c .before .before .before .before .before .before .counts-of .ensures) _ _ _ (c .subproblem .ensures) (c .before .before .before .before .is-record .ensures) (c .before .before .before .before .before .next .ensures))
+returns c = let s = c .before .before .before .before .before .before .before .before .before .before in rw (c .before .before .before .moved .ensures) (record-stepped (s .pre .0) _ (is s) (c .before .before .before .before .before .before .counts-of .ensures) _ _ _ (c .subproblem-length .ensures) (c .before .before .before .before .is-record .ensures) (c .before .before .before .before .before .next .ensures))
 
 pub record-step-spec : {M : Type 1} → statement M
-record-step-spec = tie.close (tie.spec (λ c κs. cursor (c .before .before .before)) (λ c κs. cursor (c .before .before .before .before)) is-record-requires moved-requires cast-subproblem cast-subproblem-2 (λ c κs. search needs) add-t14 returns)
+record-step-spec = tie.close (tie.spec (λ c κs. cursor (c .before .before .before)) (λ c κs. cursor (c .before .before .before .before)) is-record-requires moved-requires cast-subproblem-length cast-subproblem-length-2 (λ c κs. search needs) add-t14 returns)

@@ -26,14 +26,14 @@ record-ok-requires c κs = (choice (c .before) .inside, choice (c .before) .low)
 next-requires : tie.Need-next-requires
 next-requires c κs = rule-cursor (c .before .before .before .before .before .before .before .before .before .before .before .pre)
 
-cast-subproblem : tie.Need-cast-subproblem
-cast-subproblem c = omega (arith, c .before .before .before .before .before .before .counts-of .ensures .rows-few)
+cast-subproblem-length : tie.Need-cast-subproblem-length
+cast-subproblem-length c = omega (arith, c .before .before .before .before .before .before .counts-of .ensures .rows-few)
 
-cast-subproblem-2 : tie.Need-cast-subproblem-2
-cast-subproblem-2 c = omega (arith, c .before .before .before .before .before .before .before .counts-of .ensures .columns-few)
+cast-subproblem-length-2 : tie.Need-cast-subproblem-length-2
+cast-subproblem-length-2 c = omega (arith, c .before .before .before .before .before .before .before .counts-of .ensures .columns-few)
 
 add-t21 : tie.Need-add-t21
-add-t21 c = let p = c .before .before .before .before .before .before .before .before .before .before .before .before .before .before .before .pre in omega (arith, c .subproblem .ensures, rule-at p (c .before .before .before .before .before .before .before .before .counts-of .ensures), p .given .long, inputs-length (p .given .laid .inputs))
+add-t21 c = let p = c .before .before .before .before .before .before .before .before .before .before .before .before .before .before .before .pre in omega (arith, c .subproblem-length .ensures, rule-at p (c .before .before .before .before .before .before .before .before .counts-of .ensures), p .given .long, inputs-length (p .given .laid .inputs))
 
 returns : tie.Need-returns
 returns c =
@@ -41,7 +41,7 @@ returns c =
     let n = c .before .before .before .before .before .before .before .before in
     let w = n .before .pair-weight in
     let e : Same (w .result) = back (w .ok) in
-    passing p (n .counts-of .ensures) (w .ensures) _ (c .before .before .before .before .before .before .record-ok .result) _ refl refl refl e ((rw e at (c .before .before .before .before .before .before .record-ok .ensures)) ∙ choice n .is) (c .subproblem .ensures) (c .before .before .before .next .ensures)
+    passing p (n .counts-of .ensures) (w .ensures) _ (c .before .before .before .before .before .before .record-ok .result) _ refl refl refl e ((rw e at (c .before .before .before .before .before .before .record-ok .ensures)) ∙ choice n .is) (c .subproblem-length .ensures) (c .before .before .before .next .ensures)
 
 pub rule-step-spec : {M : Type 1} → statement M
-rule-step-spec = tie.close (tie.spec (λ c κs. search needs) counts-of-requires record-ok-requires (λ c. search needs) next-requires cast-subproblem cast-subproblem-2 (λ c κs. search needs) add-t21 returns)
+rule-step-spec = tie.close (tie.spec (λ c κs. search needs) counts-of-requires record-ok-requires (λ c. search needs) next-requires cast-subproblem-length cast-subproblem-length-2 (λ c κs. search needs) add-t21 returns)

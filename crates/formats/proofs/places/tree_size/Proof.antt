@@ -15,16 +15,16 @@ mul-result : tie.Need-mul-result
 mul-result c = rw (c .vertex-size .ensures) (omega (arith, few c))
 
 add-result : tie.Need-add-result
-add-result c = rw (c .vertex-size .ensures, c .before .tree-head .ensures) (omega (arith, few c))
+add-result c = rw (c .vertex-size .ensures, c .before .tree-head-length .ensures) (omega (arith, few c))
 
 mul-result-2 : tie.Need-mul-result-2
-mul-result-2 c = rw (c .edge .ensures) (search needs)
+mul-result-2 c = rw (c .edge-length .ensures) (search needs)
 
 add-result-2 : tie.Need-add-result-2
-add-result-2 c = rw (c .edge .ensures, c .before .vertex-size .ensures, c .before .before .tree-head .ensures) (omega (arith, few (c .before)))
+add-result-2 c = rw (c .edge-length .ensures, c .before .vertex-size .ensures, c .before .before .tree-head-length .ensures) (omega (arith, few (c .before)))
 
 returns : tie.Need-returns
-returns c = rw (c .edge .ensures, c .before .vertex-size .ensures, c .before .before .tree-head .ensures)
+returns c = rw (c .edge-length .ensures, c .before .vertex-size .ensures, c .before .before .tree-head-length .ensures)
 
 pub tree-size-spec : {M : Type 1} → statement M
 tree-size-spec =

@@ -20,10 +20,10 @@ mul-result : tie.Need-mul-result
 mul-result c = rw (c .vertex-size .ensures) (omega (arith, inside c))
 
 add-result : tie.Need-add-result
-add-result c = rw (c .vertex-size .ensures, c .before .tree-head .ensures) (omega (arith, inside c))
+add-result c = rw (c .vertex-size .ensures, c .before .tree-head-length .ensures) (omega (arith, inside c))
 
 returns : tie.Need-returns
-returns c = rw (c .vertex-size .ensures, c .before .tree-head .ensures) (refl, inside c)
+returns c = rw (c .vertex-size .ensures, c .before .tree-head-length .ensures) (refl, inside c)
 
 pub vertex-start-spec : {M : Type 1} → statement M
 vertex-start-spec = tie.close (tie.spec (λ c κs. search needs) vertex-size-requires mul-result add-result returns)

@@ -7,7 +7,7 @@ use Rattle.formats.proofs.places.with_serials.Tie as tie
 
 returns : tie.Need-returns
 unfolding withSerials
-returns c = c .is-mark .ensures ∙ rw (c .before .before .tree-head .ensures)
+returns c = c .is-mark .ensures ∙ rw (c .before .before .tree-head-length .ensures)
 
 pub with-serials-spec : {M : Type 1} → statement M
 with-serials-spec = tie.close (tie.spec (λ c κs. search needs) (λ c κs. search needs) returns)

@@ -13,7 +13,7 @@ returns-2 : tie.Need-returns-2
 unfolding lengthKnown
 returns-2 c =
     let m = c .before .before .before in
-    rw (c .before .is-mark2 .ensures, m .is-mark .ensures, m .before .before .before .tree-head .ensures, ← either _)
+    rw (c .before .is-mark2 .ensures, m .is-mark .ensures, m .before .before .before .tree-head-length .ensures, ← either _)
 
 pub is-length-known-spec : {M : Type 1} → statement M
 is-length-known-spec = tie.close (tie.spec (λ c κs. search needs) (λ c. search needs) returns (λ c κs. search needs) (λ c κs. search needs) (λ c. search needs) returns-2)

@@ -33,8 +33,8 @@ put-record-requires c κs =
     let e = at-others .others-of .ensures in
     (omega (arith, s .pre .1), (fit-children F, fit-others F e (at-row .others-row .ensures)))
 
-cast-subproblem-2 : tie.Need-cast-subproblem-2
-cast-subproblem-2 c = omega (arith, few (c .before .before .before .before .before .before .before .before))
+cast-subproblem-length-2 : tie.Need-cast-subproblem-length-2
+cast-subproblem-length-2 c = omega (arith, few (c .before .before .before .before .before .before .before .before))
 
 returns : tie.Need-returns
 returns c =
@@ -42,7 +42,7 @@ returns c =
     let at-row = at-put .before .before .before .before in
     let at-others = at-row .before .before in
     let s = at-others .before .before .before .before in
-    one-put (at-others .others-of .ensures) (toZ-ofZ (s .fits .value)) (ap (λ (x : ℕ). s .args .at + x) (c .subproblem .ensures)) (at-row .others-row .ensures) (at-put .put-record .ensures)
+    one-put (at-others .others-of .ensures) (toZ-ofZ (s .fits .value)) (ap (λ (x : ℕ). s .args .at + x) (c .subproblem-length .ensures)) (at-row .others-row .ensures) (at-put .put-record .ensures)
 
 pub put-one-spec : {M : Type 1} → statement M
 put-one-spec =
@@ -52,7 +52,7 @@ put-one-spec =
     others-row-requires
     put-record-requires
     (λ c. search needs)
-    cast-subproblem-2
+    cast-subproblem-length-2
     (λ c κs. search needs)
     (λ c. search needs)
     (λ c. search needs)

@@ -1,9 +1,9 @@
--- `record_length` meets its contract: each arm of the match is a case of the definition. Assumes nothing.
+-- `length_by_mark` meets its contract: each arm of the match is a case of the definition. Assumes nothing.
 use mathlib.Core.Path.{sym}
 use borrow.Author.Needs.{needs}
 use Rattle.lengths.specs.Marks.{after-b1, after-c1, after-other}
-use Rattle.lengths.proofs.record_length.Statement.{statement}
-use Rattle.lengths.proofs.record_length.Tie as tie
+use Rattle.lengths.proofs.length_by_mark.Statement.{statement}
+use Rattle.lengths.proofs.length_by_mark.Tie as tie
 
 returns : tie.Need-returns
 returns c = rw (c .before .match .keys1, c .match2 .keys1)
@@ -53,8 +53,8 @@ returns-13 c =
     let n = c .match .rest in
     sym (after-other (a .k) (a .l) (a .children) (a .others) (a .a) (a .b) (n .0 .1) (n .1))
 
-pub record-length-spec : {M : Type 1} → statement M
-record-length-spec =
+pub length-by-mark-spec : {M : Type 1} → statement M
+length-by-mark-spec =
     tie.close
     (tie.spec
     (λ c. search needs)
