@@ -19,15 +19,15 @@ fn length_by_mark(a: u8, b: u8, k: u8, l: u8, children: u8, others: u8) -> Recor
             0x05 => RecordLength::Bytes(2 + 4 * (k as usize)),
             0x06 => RecordLength::Bytes(2 + 4 * (l as usize)),
             0x07 => RecordLength::Bytes(7),
-            _ => RecordLength::Unknown,
+            _ => RecordLength::Unknown, // any other after B1
         },
         0xC1 => match b {
             0x01 => RecordLength::Bytes(8),
             0x02 => RecordLength::Bytes(3),
             0x03 => RecordLength::Bytes(6 + 4 * (children as usize) + 4 * (others as usize)),
-            _ => RecordLength::Unknown,
+            _ => RecordLength::Unknown, // any other after C1
         },
-        _ => RecordLength::Unknown,
+        _ => RecordLength::Unknown, // any other first byte
     }
 }
 
