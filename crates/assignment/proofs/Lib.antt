@@ -4,5 +4,7 @@ pub mod Steps
 pub mod Runs
 pub mod Leaves
 pub mod Turns
+pub mod Counting
 pub mod Roots
+pub mod Choices
 pub mod Examples

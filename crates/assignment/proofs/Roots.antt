@@ -12,12 +12,13 @@ use lib.Seq.{getD-set-same, getD-set-other}
 use borrow.Author.Count.{below-more}
 use borrow.Author.Tests.{eq-eqb, ne-eqb, lt-ltb, le-ltb, ltb-true}
 use Rattle.foundations.specs.Tests.{same?, less?, not-says}
+use Rattle.foundations.specs.Sums.{sum-ext}
 use Rattle.model.specs.Limits.{degreeLimit, pairLimit}
-use Rattle.assignment.specs.Matching.{at, cell, gainLimit, all, gained}
-use Rattle.assignment.specs.State.{Bytes, State, Sized, Lengths, Pending, Joined, Solved, Answer, Cleared, Rest, Partner, also}
+use Rattle.assignment.specs.Matching.{at, cell, outOf, out-yes, out-no, gainLimit, gained, weight}
+use Rattle.assignment.specs.State.{Bytes, State, Sized, Lengths, Pending, Joined, Solved, Answer, Heaviest, Dual, Total, Cleared, Partner, also}
 use Rattle.assignment.specs.Loops.{rowEnd, OwnersOf, First}
 use Rattle.assignment.specs.Tree.{Run, Rooted, Ended}
-use Rattle.assignment.proofs.Duality.{rest-best, solved}
+use Rattle.assignment.proofs.Duality.{solved}
 use Rattle.assignment.proofs.Steps.{also-same, also-other, state-ext}
 use Rattle.assignment.proofs.Turns.{bytes-set}
 use Rattle.assignment.proofs.Runs.{advance, run-start, run-end-row, run-end-column}
@@ -184,58 +185,88 @@ cleared-more {i} {c} g h D hi hc e = record {
 pub cleared-end : {i k c : ℕ} (g h : List ℕ) → Cleared i c (cell g) (cell h) → k ≤ i → Cleared k c (cell g) (cell h)
 cleared-end g h D le = record { here = λ x lt. D .here x (omega arith); other = D .other }
 
+-- ---- a state over gains that are the same
+
+pub state-same : {k l : ℕ} {g h : ℕ → ℕ → ℕ} {f : ℕ → Bool} {y z m : ℕ → ℕ} → ((i j : ℕ) → i < k → j < l → h i j ≡ g i j) → State k l g f y z m → State k l h f y z m
+state-same e S = record {
+  feasible = λ i j hi p hj. omega (arith, e i j hi hj, S .feasible i j hi p hj);
+  tight = λ i hi lt. e i _ hi lt ∙ S .tight i hi lt;
+  injective = S .injective;
+  columns = S .columns;
+  rows = S .rows;
+  pending = S .pending;
+  limit = S .limit;
+}
+
+-- nothing is left out
+pub out-none : (g : ℕ → ℕ → ℕ) (i j : ℕ) → outOf 0 g i j ≡ g i j
+out-none g i j = out-no 0 g i j (λ e. omega arith)
+
+pub sized-out : {k l : ℕ} (c : ℕ) {g : ℕ → ℕ → ℕ} → Sized k l g → Sized k l (outOf c g)
+sized-out c {g} S = record {
+  rows = S .rows;
+  columns = S .columns;
+  gains = λ i j hi hj. ⊎-elim (λ e. omega (arith, out-yes c g i j e)) (λ n. omega (arith, out-no c g i j n, S .gains i j hi hj)) (same? (j + 1) c);
+}
+
+-- ---- the weight of an answer
+
+pub heaviest-solved : {k l : ℕ} {g : ℕ → ℕ → ℕ} {y z m : ℕ → ℕ} {r : ℕ} → Solved k l g y z m → Total k l y z r → Heaviest k l g r
+heaviest-solved {y = y} {z = z} {m = m} S N = record { y = y; z = z; m = m; dual = record { feasible = S .feasible; injective = S .injective; equal = S .equal }; total = N .equal }
+
+-- ---- without the column that choice c leaves out
+
 abbrev but : ℕ → ℕ → Bool
 but r i = not (eqb i r)
 
-module _ {k l c : ℕ} (g h : List ℕ) {y z m : List ℕ} (S : Sized k l (cell g)) (hc : c < l) (D : Cleared k c (cell g) (cell h)) (A : Answer k l (cell g) y z m) where
+module _ {k l c : ℕ} {g : ℕ → ℕ → ℕ} {y z m : List ℕ} (S : Sized k l g) (c-some : 1 ≤ c) (hc : c ≤ l) (A : Answer k l g y z m) where
+  abbrev h : ℕ → ℕ → ℕ
+  h = outOf c g
+
   l-few : l ≤ degreeLimit
   l-few = S .columns
 
-  pub sized-cleared : Sized k l (cell h)
-  sized-cleared = record { rows = S .rows; columns = S .columns; gains = λ i j hi hj. ⊎-elim (λ q. subst (λ (x : ℕ). cell h i x ≤ gainLimit) (sym q) (omega (arith, D .here i hi))) (λ n. omega (arith, D .other i j (omega (arith, l-few)) n, S .gains i j hi hj)) (same? j c) }
+  no-c : {j : ℕ} → j ≢ c - 1 → j + 1 ≢ c
+  no-c n e = n (omega arith)
 
-  z-here : at (set z c 0) c ≡ 0
-  z-here = getD-set-same z c 0 0 (omega (arith, A .sizes .columns, l-few))
+  z-here : at (set z (c - 1) 0) (c - 1) ≡ 0
+  z-here = getD-set-same z (c - 1) 0 0 (omega (arith, A .sizes .columns, l-few))
 
-  z-other : (j : ℕ) → j ≢ c → at (set z c 0) j ≡ at z j
-  z-other j n = getD-set-other z c j 0 0 n
+  z-other : (j : ℕ) → j ≢ c - 1 → at (set z (c - 1) 0) j ≡ at z j
+  z-other j n = getD-set-other z (c - 1) j 0 0 n
 
-  covered : (i j : ℕ) → i < k → j < l → cell h i j ≤ at y i + at (set z c 0) j
+  covered : (i j : ℕ) → i < k → j < l → h i j ≤ at y i + at (set z (c - 1) 0) j
   covered i j hi hj = ⊎-elim
-      (λ q. subst (λ (x : ℕ). cell h i x ≤ at y i + at (set z c 0) x) (sym q) (omega (arith, D .here i hi)))
-      (λ n. omega (arith, D .other i j (omega (arith, l-few)) n, z-other j n, A .solved .feasible i j hi hj))
-      (same? j c)
+      (λ q. omega (arith, out-yes c g i j (let w : j + 1 ≡ c = omega arith in w)))
+      (λ n. omega (arith, out-no c g i j (no-c n), z-other j n, A .solved .feasible i j hi hj))
+      (same? j (c - 1))
 
-  tight : (i : ℕ) → i < k → at m i < l → at m i ≢ c → cell h i (at m i) ≡ at y i + at (set z c 0) (at m i)
-  tight i hi lt n = omega (arith, D .other i (at m i) (omega (arith, l-few)) n, z-other (at m i) n, A .solved .tight i hi lt)
+  tight : (i : ℕ) → i < k → at m i < l → at m i ≢ c - 1 → h i (at m i) ≡ at y i + at (set z (c - 1) 0) (at m i)
+  tight i hi lt n = omega (arith, out-no c g i (at m i) (no-c n), z-other (at m i) n, A .solved .tight i hi lt)
 
   -- no row has the column: all stays
-  pub rest-free : length h ≡ pairLimit → ((i : ℕ) → i < k → at m i ≢ c) → Rest k l c g h y (set z c 0) m
-  rest-free lh free = record {
-    long = lh;
-    cleared = D;
-    sized = sized-cleared;
-    answer = record {
-      sizes = record { rows = A .sizes .rows; columns = length-set z c 0 ∙ A .sizes .columns; matching = A .sizes .matching };
-      bytes = A .bytes;
-      solved = rest;
+  pub rest-free : {r : ℕ} → ((i : ℕ) → i < k → at m i ≢ c - 1) → Total k l (at y) (at z) r → Heaviest k l h r
+  unfolding weight gained
+  rest-free {r} free N = record {
+    y = at y;
+    z = at z;
+    m = at m;
+    dual = record {
+      feasible = λ i j hi hj. ⊎-elim
+          (λ e. omega (arith, out-yes c g i j e))
+          (λ n. omega (arith, out-no c g i j n, A .solved .feasible i j hi hj))
+          (same? (j + 1) c);
+      injective = A .solved .injective;
+      equal = sum-ext k (gained l h (at m)) (gained l g (at m)) (λ i hi. ⊎-elim
+          (λ lt. rw (lt-ltb (at m i) l lt) (out-no c g i (at m i) (no-c (free i hi))))
+          (λ le. rw (le-ltb (at m i) l le))
+          (less? (at m i) l)) ∙ A .solved .equal;
     };
-    greatest = rest .greatest ∙ rest-best l-few D;
+    total = N .equal;
   }
-    where
-      rest : Solved k l (cell h) (at y) (at (set z c 0)) (at m)
-      rest = solved {finished = all} (record {
-        feasible = λ i j hi f hj. covered i j hi hj;
-        tight = λ i hi lt. tight i hi lt (free i hi);
-        injective = A .solved .injective;
-        columns = λ j hj. ⊎-elim (λ q. inl (ap (at (set z c 0)) q ∙ z-here)) (λ n. ⊎-elim (λ e. inl (z-other j n ∙ e)) inr (A .solved .columns j hj)) (same? j c);
-        rows = λ i hi f. A .solved .rows i hi;
-        pending = λ i hi f. absurd (true≢false f);
-        limit = λ i hi f. A .solved .row-limit i hi;
-      }) (λ i hi. refl) (sized-cleared .gains)
 
   -- row r has it: it is pending, and the others are finished
-  module _ (r : ℕ) (hr : r < k) (mr : at m r ≡ c) where
+  module _ (r : ℕ) (hr : r < k) (mr : at m r ≡ c - 1) where
     others-no : (i : ℕ) → but r i ≡ true → i ≢ r
     others-no i f q = true≢false (sym (eq-eqb i r q) ∙ not-says (eqb i r) f)
 
@@ -254,31 +285,31 @@ module _ {k l c : ℕ} (g h : List ℕ) {y z m : List ℕ} (S : Sized k l (cell 
     not-r : (i : ℕ) → at (set m r degreeLimit) i < l → i ≢ r
     not-r i lt q = omega (arith, ap (at (set m r degreeLimit)) q, m-here, l-few)
 
-    not-c : (i : ℕ) → i < k → i ≢ r → at m i < l → at m i ≢ c
+    not-c : (i : ℕ) → i < k → i ≢ r → at m i < l → at m i ≢ c - 1
     not-c i hi n lt e = n (A .solved .injective i r hi hr lt (e ∙ sym mr))
 
-    pub rest-lengths : Lengths y (set z c 0) (set m r degreeLimit)
-    rest-lengths = record { rows = A .sizes .rows; columns = length-set z c 0 ∙ A .sizes .columns; matching = length-set m r degreeLimit ∙ A .sizes .matching }
+    pub rest-lengths : Lengths y (set z (c - 1) 0) (set m r degreeLimit)
+    rest-lengths = record { rows = A .sizes .rows; columns = length-set z (c - 1) 0 ∙ A .sizes .columns; matching = length-set m r degreeLimit ∙ A .sizes .matching }
 
     pub rest-bytes : Bytes l (set m r degreeLimit)
     rest-bytes = bytes-set r degreeLimit (A .bytes) (omega (arith, A .sizes .matching, S .rows)) (inr refl)
 
-    pub rest-pending : Pending k l r (cell h) (at y) (at (set z c 0)) (at (set m r degreeLimit))
+    pub rest-pending : Pending k l r (h) (at y) (at (set z (c - 1) 0)) (at (set m r degreeLimit))
     rest-pending = record {
       finished = but r;
       state = record {
         feasible = λ i j hi f hj. covered i j hi hj;
         tight = λ i hi lt. let n = not-r i lt in let w : at m i < l = omega (arith, m-other i n) in
-            subst (λ (x : ℕ). cell h i x ≡ at y i + at (set z c 0) x) (sym (m-other i n)) (tight i hi w (not-c i hi n w));
+            subst (λ (x : ℕ). h i x ≡ at y i + at (set z (c - 1) 0) x) (sym (m-other i n)) (tight i hi w (not-c i hi n w));
         injective = λ i j hi hj lt e. let n = not-r i lt in let n′ = not-r j (omega arith) in
             A .solved .injective i j hi hj (omega (arith, m-other i n)) (sym (m-other i n) ∙ e ∙ m-other j n′);
         columns = λ j hj. ⊎-elim
-            (λ q. inl (ap (at (set z c 0)) q ∙ z-here))
+            (λ q. inl (ap (at (set z (c - 1) 0)) q ∙ z-here))
             (λ n. ⊎-elim
             (λ e. inl (z-other j n ∙ e))
             (λ p. inr (p .0, p .1, m-other (p .0) (λ q. n (sym (p .2) ∙ ap (at m) q ∙ mr)) ∙ p .2))
             (A .solved .columns j hj))
-            (same? j c);
+            (same? j (c - 1));
         rows = λ i hi f. ⊎-elim inl (λ lt. inr (omega (arith, m-other i (others-no i f)))) (A .solved .rows i hi);
         pending = λ i hi f. omega (arith, ap (at (set m r degreeLimit)) (others-r i f), m-here, l-few);
         limit = λ i hi f. A .solved .row-limit i hi;
@@ -286,12 +317,9 @@ module _ {k l c : ℕ} (g h : List ℕ) {y z m : List ℕ} (S : Sized k l (cell 
       pending = rw (eq-eqb r r refl);
     }
 
-    pub rest-searched : {y′ z′ m′ : List ℕ} → length h ≡ pairLimit → Ended k l r (cell h) y (set z c 0) (set m r degreeLimit) y′ z′ m′ → Rest k l c g h y′ z′ m′
+    pub rest-searched : {y′ z′ m′ : List ℕ} → Ended k l r h y (set z (c - 1) 0) (set m r degreeLimit) y′ z′ m′ → Solved k l h (at y′) (at z′) (at m′)
     unfolding rest-pending
-    rest-searched {y′} {z′} {m′} lh E = record { long = lh; cleared = D; sized = sized-cleared; answer = record { sizes = E .sizes; bytes = E .bytes; solved = rest }; greatest = rest .greatest ∙ rest-best l-few D }
-      where
-        rest : Solved k l (cell h) (at y′) (at z′) (at m′)
-        rest = solved (E .joined .state rest-pending) (λ i hi. ⊎-elim (λ q. also-same r (but r) i q) (λ n. also-other r (but r) i n ∙ others-yes i n) (same? i r)) (sized-cleared .gains)
+    rest-searched E = solved (E .joined .state rest-pending) (λ i hi. ⊎-elim (λ q. also-same r (but r) i q) (λ n. also-other r (but r) i n ∙ others-yes i n) (same? i r)) (sized-out c S .gains)
 
 -- ---- what a row has in the answer
 

@@ -16,6 +16,8 @@ use Rattle.assignment.specs.Matching.{at, entry, gainLimit}
 use Rattle.assignment.specs.State.{Bytes, Pending}
 use Rattle.assignment.specs.Loops.{lessOf, whoOf, Looked, Room, Settled}
 use Rattle.assignment.specs.Tree.{Put, Run, Lowest, outside, Grown, Rooted, Turn, Ended}
+use Rattle.assignment.specs.Counts.{Tried, Fresh}
+use Rattle.assignment.proofs.Counting.{Tries, tries-more, tries-fresh}
 use Rattle.assignment.proofs.Duality.{column-limit}
 use Rattle.assignment.proofs.Steps.{matched-finished}
 use Rattle.assignment.proofs.Runs.{advance, run-grow, run-end-row, run-end-column, run-start}
@@ -62,7 +64,7 @@ bytes-set {l} {m} c v B h e = record {
 marks-one : (r i : ℕ) → r < degreeLimit → i < degreeLimit → i ≢ r → at (set (replicate degreeLimit 0) r 1) i ≢ 1
 marks-one r i hr hi n e = omega (arith, e, getD-set-other {A = ℕ} (replicate degreeLimit 0) r i 1 0 n, at-all 0 i hi)
 
-mark-here : (r : ℕ) → r < degreeLimit → at (set (replicate degreeLimit 0) r 1) r ≡ 1
+pub mark-here : (r : ℕ) → r < degreeLimit → at (set (replicate degreeLimit 0) r 1) r ≡ 1
 mark-here r hr = getD-set-same (replicate degreeLimit 0) r 1 0 hr
 
 alt-here : (r : ℕ) (m : List ℕ) → r < degreeLimit → getD (set (replicate degreeLimit (replicate {A = ℕ} degreeLimit degreeLimit)) r m) r [] ≡ m
@@ -217,6 +219,9 @@ module _ {k l r : ℕ} {g : ℕ → ℕ → ℕ} {y₀ z₀ m₀ y z m own row c
       o-out : at row o ≢ 1
       o-out t = found .1 (subst (λ (x : ℕ). at col x ≡ 1) mo (R₀ .tree .rows o o<k t (λ q. omega (arith, R₀ .state .pending r (P .below) (P .pending .pending), ap (at m) q, mo, found .0)) .1))
 
+      pub o-fresh : {n₀ n : List ℕ} → ((i : ℕ) → i < degreeLimit → i ≢ r → Fresh i n₀) → Tries r row n₀ n → Fresh (at own b) n
+      o-fresh {n = n} F T = subst (λ (t : ℕ). Fresh t n) eo (tries-fresh F T lt o-out)
+
       pub base-small : at y o + d ≤ 2 * gainLimit
       base-small = omega (arith, R₀ .start .limit o o<k fo, X .lowest .small)
 
@@ -232,6 +237,10 @@ module _ {k l r : ℕ} {g : ℕ → ℕ → ℕ} {y₀ z₀ m₀ y z m own row c
 
         put-join : Put k (at join) o d (at join′)
         put-join = rw (J .joins) (put-set k join o d (omega (arith, X .arrays .joins)))
+
+        -- the pairs of o are looked at for the first time
+        pub tries-grow : {c : ℕ} {n₀ n n′ : List ℕ} → Tries r row n₀ n → Tried c (at own b) l n n′ → Tries r row′ n₀ n′
+        tries-grow {c} {n = n} {n′ = n′} T S = tries-more c T o-out (omega (arith, X .arrays .rows)) (J .rows) (subst (λ (t : ℕ). Tried c t l n n′) (sym eo) S)
 
         pub fewer : outside l (at col′) < outside l (at col)
         fewer = outside-less l b (at col) (at col′) (found .0) (found .1) put-col

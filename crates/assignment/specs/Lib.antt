@@ -3,3 +3,4 @@ pub mod Matching
 pub mod State
 pub mod Loops
 pub mod Tree
+pub mod Counts

@@ -38,10 +38,10 @@ pub record OwnersOf (i : ℕ) (m own : List ℕ) : Type 0 where
   pub none : (c : ℕ) → c < degreeLimit → degreeLimit ≤ at own c → (x : ℕ) → x < i → at m x ≢ c
   pub size : length own ≡ degreeLimit
 
--- r is the row of column j, or k or more
-pub record Owner (k : ℕ) (m : ℕ → ℕ) (j r : ℕ) : Type 0 where
-  pub has : r < k → m r ≡ j
-  pub none : k ≤ r → (i : ℕ) → i < k → m i ≢ j
+-- no f x below j is greater than d, and b has it where it is not 0
+pub record Greatest (j : ℕ) (f : ℕ → ℕ) (b d : ℕ) : Type 0 where
+  pub most : (x : ℕ) → x < j → f x ≤ d
+  pub found : 0 < d → (b < j) × (f b ≡ d)
 
 -- b is a column below j outside C with the least f, which is d; where there is none b is `degreeLimit` and d is `far`
 pub record Nearest (j : ℕ) (C f : ℕ → ℕ) (b d : ℕ) : Type 0 where

@@ -1,10 +1,12 @@
 -- Matchings of rows 0 .. k-1 with columns 0 .. l-1: their weight, and the greatest weight, by trying all. Assumes nothing.
 use mathlib.Core.Path.{_≡_}
+use mathlib.Core.Logic.{_≢_}
 use mathlib.Core.Bool.{Bool, true, cond, not, _&&_}
 use mathlib.Core.List.{List, []}
 use Prim.Native.Nat.{ℕ, zero, suc, _+_, _*_, _≤_, _<_, max}
 use lib.Dec.{ltb, eqb}
 use lib.ListN.{getD}
+use borrow.Author.Tests.{eq-eqb, ne-eqb}
 use Rattle.foundations.specs.Sums.{sum}
 use Rattle.model.specs.Limits.{degreeLimit}
 
@@ -20,6 +22,18 @@ cell g i j = getD g (i * degreeLimit + j) 0
 -- a table as an array of rows
 abbrev pub entry : List (List ℕ) → ℕ → ℕ → ℕ
 entry t i j = getD (getD t i []) j 0
+
+-- the gains without the column that choice c leaves out: none for 0, else column c - 1
+unfoldable pub outOf : ℕ → (ℕ → ℕ → ℕ) → ℕ → ℕ → ℕ
+outOf c g i j = cond (eqb (j + 1) c) 0 (g i j)
+
+pub out-yes : (c : ℕ) (g : ℕ → ℕ → ℕ) (i j : ℕ) → j + 1 ≡ c → outOf c g i j ≡ 0
+unfolding outOf
+out-yes c g i j e = rw (eq-eqb (j + 1) c e)
+
+pub out-no : (c : ℕ) (g : ℕ → ℕ → ℕ) (i j : ℕ) → j + 1 ≢ c → outOf c g i j ≡ g i j
+unfolding outOf
+out-no c g i j n = rw (ne-eqb (j + 1) c n)
 
 -- ---- matchings
 

@@ -8,7 +8,7 @@ use lib.Dec.{eqb}
 use lib.ListN.{length}
 use Rattle.foundations.specs.Sums.{sum}
 use Rattle.model.specs.Limits.{degreeLimit, pairLimit}
-use Rattle.assignment.specs.Matching.{at, cell, gainLimit, weight, Injective, Has, best, all, minus, gained}
+use Rattle.assignment.specs.Matching.{at, cell, outOf, gainLimit, weight, Injective, Has, best, all, gained}
 
 -- the sizes, and the gains' limit
 pub record Sized (k l : ℕ) (g : ℕ → ℕ → ℕ) : Type 0 where
@@ -73,13 +73,24 @@ pub record Cleared (k c : ℕ) (g h : ℕ → ℕ → ℕ) : Type 0 where
   pub here : (i : ℕ) → i < k → h i c ≡ 0
   pub other : (i j : ℕ) → j < degreeLimit → j ≢ c → h i j ≡ g i j
 
--- the answer of the rest: without column c, whose gains are now 0. The last part says it of the old gains: no matching of the other columns weighs more.
-pub record Rest (k l c : ℕ) (g h y z m : List ℕ) : Type 0 where
-  pub long : length h ≡ pairLimit
-  pub cleared : Cleared k c (cell g) (cell h)
-  pub sized : Sized k l (cell h)
-  pub answer : Answer k l (cell h) y z m
-  pub greatest : weight k l (cell h) (at m) ≡ best l (cell g) k (minus all c)
+-- y and z cover every gain, and their sum is the weight of m, so that no matching weighs more
+pub record Dual (k l : ℕ) (g : ℕ → ℕ → ℕ) (y z m : ℕ → ℕ) : Type 0 where
+  pub feasible : (i j : ℕ) → i < k → j < l → g i j ≤ y i + z j
+  pub injective : Injective k l m
+  pub equal : weight k l g m ≡ sum k y + sum l z
+
+-- r is the weight of a matching whose duals show that none is heavier
+pub record Heaviest (k l : ℕ) (g : ℕ → ℕ → ℕ) (r : ℕ) : Type 0 where
+  pub y : ℕ → ℕ
+  pub z : ℕ → ℕ
+  pub m : ℕ → ℕ
+  pub dual : Dual k l g y z m
+  pub total : r ≡ sum k y + sum l z
+
+-- t has the greatest weight for each choice: at 0 that of all columns, at c that without column c - 1
+pub record WeightsOf (k l : ℕ) (g : ℕ → ℕ → ℕ) (t : List ℕ) : Type 0 where
+  pub size : length t ≡ degreeLimit + 1
+  pub each : (c : ℕ) → c ≤ l → Heaviest k l (outOf c g) (at t c)
 
 -- r is the sum of all duals, and so the greatest weight of whatever they are the answer of
 pub record Total (k l : ℕ) (y z : ℕ → ℕ) (r : ℕ) : Type 0 where

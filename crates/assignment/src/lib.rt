@@ -1,7 +1,10 @@
 //! The heaviest matching of rows with columns, at most `PLACES` each, by path searches: one search for each row, and in a search
-//! each pair of a row and a column is looked at once. Gains are at `row * PLACES + column`, none above `GAIN_LIMIT`. The duals
+//! each pair of a row and a column is looked at once at most. Searches and looks are counted. Gains are at `row * PLACES + column`, none above `GAIN_LIMIT`. The duals
 //! `y` of rows and `z` of columns show that no matching is heavier: their sums cover every gain, and the sum of all is the
-//! matching's weight. `m` has the column of each row, or `FREE`. The definitions are in `specs/`.
+//! matching's weight. `m` has the column of each row, or `FREE`. A choice c leaves a column out: none for 0, else column c - 1. `weights`
+//! has the weight for each choice. The definitions are in `specs/`.
+pub mod weights;
+
 
 use model::Gains;
 use model::Limits;
@@ -9,20 +12,27 @@ use model::Row;
 use model::WideRow;
 ghost use Prim.Native.Nat.{ℕ, _+_, _-_, _*_, _<_, _≤_};
 ghost use mathlib.Core.Path.{_≡_};
+ghost use mathlib.Core.Logic.{_≢_};
 ghost use lib.ListN.{length};
 ghost use Rattle.foundations.specs.Sums.{sum};
 ghost use Rattle.foundations.specs.Changed.{Changed};
 ghost use Rattle.model.specs.Limits.{degreeLimit, pairLimit};
-ghost use Rattle.assignment.specs.Matching.{at, cell, gainLimit};
-ghost use Rattle.assignment.specs.State.{Sized, Lengths, Bytes, Pending, Answer, Cleared, Rest, Partner, Total};
-ghost use Rattle.assignment.specs.Loops.{lessOf, whoOf, openOf, rowEnd, columnEnd, OwnersOf, Owner, Looked, First, Room, Settled};
+ghost use Rattle.assignment.specs.Matching.{at, cell, outOf, gainLimit};
+ghost use Rattle.assignment.specs.State.{Sized, Lengths, Bytes, Pending, Answer, Cleared, Partner, Total};
+ghost use Rattle.assignment.specs.Loops.{far, lessOf, whoOf, openOf, rowEnd, columnEnd, OwnersOf, Looked, First, Room, Settled};
 ghost use Rattle.assignment.specs.Tree.{Grown, Rooted, Ended};
+ghost use Rattle.assignment.specs.Counts.{lookedAt, Tried, Fresh, Once, Search, Searches, Countable};
 
 // No gain is greater: 2 ^ 48.
 pub const GAIN_LIMIT: u64 = 281474976710656;
 
 // What stands for the column of a row that has none, and for the row of a column that has none.
 pub const FREE: u8 = Limits::DEGREE;
+
+// How often each pair of a row and a column was looked at, at row * PLACES + column, and at SEARCHES how many path searches there were.
+pub type Counts = [u64; Limits::PAIRS + 1];
+
+pub const SEARCHES: usize = Limits::PAIRS;
 
 // Greater than every distance.
 const FAR: u64 = 18446744073709551615;
@@ -33,7 +43,7 @@ struct Near {
     distance: u64,
 }
 
-fn place(x: u8) -> usize
+pub(crate) fn place(x: u8) -> usize
     ensures { λ r. ⌜ r ≡ x ⌝ }
 {
     x as usize
@@ -73,7 +83,7 @@ fn open_of(c: u8, x: u64) -> u64
 }
 
 // The row that has each column, or FREE.
-fn owners(m: &Row, k: usize) -> Row
+pub(crate) fn owners(m: &Row, k: usize) -> Row
     requires { ⌜ k ≤ degreeLimit ⌝ }
     ensures { λ r. ⌜ OwnersOf k (now (m .entry)) r ⌝ }
 {
@@ -89,16 +99,39 @@ fn owners(m: &Row, k: usize) -> Row
     own
 }
 
+// The gain of row i with column j, which is looked at once more. Where choice c leaves the column out it is 0, and not looked at.
+fn look_at(counts: &mut Counts, g: &Gains, c: usize, i: usize, j: usize) -> u64
+    requires { ⌜ (length (now counts) ≡ pairLimit + 1) × (i < degreeLimit) × (j < degreeLimit) × (cell (now counts) i j < far) ⌝ }
+    ensures { λ r. ⌜ (r ≡ outOf c (cell (now (g .entry))) i j) × (now (counts .exit) ≡ lookedAt c i j (now (counts .entry))) ⌝ }
+{
+    if j + 1 == c {
+        return 0;
+    }
+    let p = i * Limits::PLACES + j;
+    counts[p] += 1;
+    g[p]
+}
+
 // The distance of each column from row r at the greatest dual, and the nearest column.
-fn look_first(dist: &mut WideRow, g: &Gains, z: &WideRow, l: usize, r: usize) -> Near
-    requires { ⌜ (length (now dist) ≡ degreeLimit) × (l ≤ degreeLimit) × (r < degreeLimit) × ((x : ℕ) → x < l → (at (now z) x ≤ gainLimit) × (cell (now g) r x ≤ gainLimit)) ⌝ }
-    ensures { λ n. ⌜ First l (λ x. gainLimit + at (now (z .entry)) x - cell (now (g .entry)) r x) (now (dist .entry)) (now (dist .exit)) (n .column) (n .distance) ⌝ }
+fn look_first(
+    counts: &mut Counts,
+    dist: &mut WideRow,
+    g: &Gains,
+    z: &WideRow,
+    l: usize,
+    c: usize,
+    r: usize,
+) -> Near
+    requires { ⌜ (length (now dist) ≡ degreeLimit) × (l ≤ degreeLimit) × (r < degreeLimit) × ((x : ℕ) → x < l → (at (now z) x ≤ gainLimit) × (outOf c (cell (now g)) r x ≤ gainLimit)) ⌝ }
+    requires { ⌜ Fresh r (now counts) ⌝ }
+    ensures { λ n. ⌜ (First l (λ x. gainLimit + at (now (z .entry)) x - outOf c (cell (now (g .entry))) r x) (now (dist .entry)) (now (dist .exit)) (n .column) (n .distance)) × (Tried c r l (now (counts .entry)) (now (counts .exit))) ⌝ }
 {
     let mut b = Limits::PLACES;
     let mut d = FAR;
     let mut j = 0;
     while j < l {
-        let s = GAIN_LIMIT + z[j] - g[r * Limits::PLACES + j];
+        let x = look_at(counts, g, c, r, j);
+        let s = GAIN_LIMIT + z[j] - x;
         dist[j] = s;
         b = place_of(s, d, j, b);
         d = less_of(s, d);
@@ -112,24 +145,28 @@ fn look_first(dist: &mut WideRow, g: &Gains, z: &WideRow, l: usize, r: usize) ->
 
 // The distances after row o joined the tree, and the nearest column outside.
 fn look(
+    counts: &mut Counts,
     dist: &mut WideRow,
     from: &mut Row,
     col: &Row,
     g: &Gains,
     z: &WideRow,
     l: usize,
+    c: usize,
     t: u8,
     base: u64,
 ) -> Near
-    requires { ⌜ (length (now dist) ≡ degreeLimit) × (length (now from) ≡ degreeLimit) × (l ≤ degreeLimit) × (t < degreeLimit) × (base ≤ 2 * gainLimit) × ((x : ℕ) → x < l → (at (now z) x ≤ gainLimit) × (cell (now g) t x ≤ base + at (now z) x)) ⌝ }
-    ensures { λ n. ⌜ Looked l t (λ x. base + at (now (z .entry)) x - cell (now (g .entry)) t x) (at (now (col .entry))) (now (dist .entry)) (now (from .entry)) (now (dist .exit)) (now (from .exit)) (n .column) (n .distance) ⌝ }
+    requires { ⌜ (length (now dist) ≡ degreeLimit) × (length (now from) ≡ degreeLimit) × (l ≤ degreeLimit) × (t < degreeLimit) × (base ≤ 2 * gainLimit) × ((x : ℕ) → x < l → (at (now z) x ≤ gainLimit) × (outOf c (cell (now g)) t x ≤ base + at (now z) x)) ⌝ }
+    requires { ⌜ Fresh t (now counts) ⌝ }
+    ensures { λ n. ⌜ (Looked l t (λ x. base + at (now (z .entry)) x - outOf c (cell (now (g .entry))) t x) (at (now (col .entry))) (now (dist .entry)) (now (from .entry)) (now (dist .exit)) (now (from .exit)) (n .column) (n .distance)) × (Tried c t l (now (counts .entry)) (now (counts .exit))) ⌝ }
 {
     let o = place(t);
     let mut b = Limits::PLACES;
     let mut d = FAR;
     let mut j = 0;
     while j < l {
-        let s = base + z[j] - g[o * Limits::PLACES + j];
+        let x = look_at(counts, g, c, o, j);
+        let s = base + z[j] - x;
         let old = dist[j];
         let new = less_of(s, old);
         dist[j] = new;
@@ -229,9 +266,11 @@ fn grow(
 // The search from row r, whose dual is the limit and whose distances are known. A turn takes the nearest column into the tree,
 // with its row. The search ends at a column without a row, or where a tree row's dual is 0: that row is made free.
 fn explore(
+    counts: &mut Counts,
     g: &Gains,
     k: usize,
     l: usize,
+    c: usize,
     r: usize,
     y: &mut WideRow,
     z: &mut WideRow,
@@ -240,8 +279,9 @@ fn explore(
     dist: &mut WideRow,
     near: Near,
 )
-    requires { ⌜ Rooted k l r (cell (now g)) (now y) (now z) (now m) (now own) (now dist) (near .column) (near .distance) ⌝ }
-    ensures { λ _. ⌜ Ended k l r (cell (now (g .entry))) (now (y .entry)) (now (z .entry)) (now (m .entry)) (now (y .exit)) (now (z .exit)) (now (m .exit)) ⌝ }
+    requires { ⌜ Rooted k l r (outOf c (cell (now g))) (now y) (now z) (now m) (now own) (now dist) (near .column) (near .distance) ⌝ }
+    requires { ⌜ ((i : ℕ) → i < degreeLimit → i ≢ r → Fresh i (now counts)) ⌝ }
+    ensures { λ _. ⌜ (Ended k l r (outOf c (cell (now (g .entry)))) (now (y .entry)) (now (z .entry)) (now (m .entry)) (now (y .exit)) (now (z .exit)) (now (m .exit))) × (Once r (now (counts .entry)) (now (counts .exit))) ⌝ }
 {
     let mut row = [0u8; Limits::PLACES];
     row[r] = 1;
@@ -268,7 +308,7 @@ fn explore(
         let base = y[o] + d;
         a = place_of(base, low, o, a);
         low = less_of(base, low);
-        let next = look(dist, &mut from, &col, g, z, l, t, base);
+        let next = look(counts, dist, &mut from, &col, g, z, l, c, t, base);
         b = next.column;
         d = next.distance;
     }
@@ -278,13 +318,26 @@ fn explore(
 
 // Row r, which is pending, joins the finished rows, whichever they are. Its dual starts at the limit, which covers every gain, so
 // that its gains are looked at once. Nothing is left to do where the columns' duals cover r, or its nearest column is free.
-fn search(g: &Gains, k: usize, l: usize, r: usize, y: &mut WideRow, z: &mut WideRow, m: &mut Row)
-    requires { ⌜ (Sized k l (cell (now g))) × (r < k) × (Lengths (now y) (now z) (now m)) × (Bytes l (now m)) × (Pending k l r (cell (now g)) (at (now y)) (at (now z)) (at (now m))) ⌝ }
-    ensures { λ _. ⌜ Ended k l r (cell (now (g .entry))) (now (y .entry)) (now (z .entry)) (now (m .entry)) (now (y .exit)) (now (z .exit)) (now (m .exit)) ⌝ }
+// The search is counted, and so is each pair that it looks at: no pair twice.
+pub(crate) fn search(
+    counts: &mut Counts,
+    g: &Gains,
+    k: usize,
+    l: usize,
+    c: usize,
+    r: usize,
+    y: &mut WideRow,
+    z: &mut WideRow,
+    m: &mut Row,
+)
+    requires { ⌜ (Sized k l (outOf c (cell (now g)))) × (r < k) × (Lengths (now y) (now z) (now m)) × (Bytes l (now m)) × (Pending k l r (outOf c (cell (now g))) (at (now y)) (at (now z)) (at (now m))) ⌝ }
+    requires { ⌜ Countable 1 (now counts) ⌝ }
+    ensures { λ _. ⌜ (Ended k l r (outOf c (cell (now (g .entry)))) (now (y .entry)) (now (z .entry)) (now (m .entry)) (now (y .exit)) (now (z .exit)) (now (m .exit))) × (Search (now (counts .entry)) (now (counts .exit))) ⌝ }
 {
+    counts[SEARCHES] += 1;
     let own = owners(m, k);
     let mut dist = [0u64; Limits::PLACES];
-    let near = look_first(&mut dist, g, z, l, r);
+    let near = look_first(counts, &mut dist, g, z, l, c, r);
     let d = near.distance;
     if GAIN_LIMIT <= d {
         y[r] = 0;
@@ -297,36 +350,39 @@ fn search(g: &Gains, k: usize, l: usize, r: usize, y: &mut WideRow, z: &mut Wide
         return;
     }
     y[r] = GAIN_LIMIT;
-    explore(g, k, l, r, y, z, m, &own, &mut dist, near);
+    explore(counts, g, k, l, c, r, y, z, m, &own, &mut dist, near);
 }
 
 // The heaviest matching of k rows and l columns with its duals, one search for each row. What the arrays held does not matter.
-pub fn solve(g: &Gains, k: usize, l: usize, y: &mut WideRow, z: &mut WideRow, m: &mut Row)
+pub(crate) fn solve_counted(
+    counts: &mut Counts,
+    g: &Gains,
+    k: usize,
+    l: usize,
+    y: &mut WideRow,
+    z: &mut WideRow,
+    m: &mut Row,
+)
     requires { ⌜ (Sized k l (cell (now g))) × (Lengths (now y) (now z) (now m)) ⌝ }
-    ensures { λ _. ⌜ Answer k l (cell (now (g .entry))) (now (y .exit)) (now (z .exit)) (now (m .exit)) ⌝ }
+    requires { ⌜ Countable k (now counts) ⌝ }
+    ensures { λ _. ⌜ (Answer k l (cell (now (g .entry))) (now (y .exit)) (now (z .exit)) (now (m .exit))) × (Searches k (now (counts .entry)) (now (counts .exit))) ⌝ }
 {
     *z = [0u64; Limits::PLACES];
     *m = [FREE; Limits::PLACES];
     let mut r = 0;
     while r < k {
-        search(g, k, l, r, y, z, m);
+        search(counts, g, k, l, 0, r, y, z, m);
         r += 1;
     }
 }
 
-// The row that has column c, or PLACES.
-fn owner(m: &Row, k: usize, c: usize) -> usize
-    requires { ⌜ k ≤ degreeLimit ⌝ }
-    ensures { λ r. ⌜ Owner k (at (now (m .entry))) c r ⌝ }
+// The same where no one asks for the counts.
+pub fn solve(g: &Gains, k: usize, l: usize, y: &mut WideRow, z: &mut WideRow, m: &mut Row)
+    requires { ⌜ (Sized k l (cell (now g))) × (Lengths (now y) (now z) (now m)) ⌝ }
+    ensures { λ _. ⌜ Answer k l (cell (now (g .entry))) (now (y .exit)) (now (z .exit)) (now (m .exit)) ⌝ }
 {
-    let mut i = 0;
-    while i < k {
-        if place(m[i]) == c {
-            return i;
-        }
-        i += 1;
-    }
-    Limits::PLACES
+    let mut counts = [0u64; Limits::PAIRS + 1];
+    solve_counted(&mut counts, g, k, l, y, z, m);
 }
 
 // The gains of column c set to 0.
@@ -339,30 +395,6 @@ pub fn clear(g: &mut Gains, k: usize, c: usize)
         g[i * Limits::PLACES + c] = 0;
         i += 1;
     }
-}
-
-// From the answer of the whole to that without column c: its gains and its dual are set to 0, and its row, if it has one, is
-// made pending and joins again by one search.
-pub fn without(
-    g: &mut Gains,
-    k: usize,
-    l: usize,
-    c: usize,
-    y: &mut WideRow,
-    z: &mut WideRow,
-    m: &mut Row,
-)
-    requires { ⌜ (length (now g) ≡ pairLimit) × (c < l) × (Sized k l (cell (now g))) × (Answer k l (cell (now g)) (now y) (now z) (now m)) ⌝ }
-    ensures { λ _. ⌜ Rest k l c (now (g .entry)) (now (g .exit)) (now (y .exit)) (now (z .exit)) (now (m .exit)) ⌝ }
-{
-    clear(g, k, c);
-    z[c] = 0;
-    let r = owner(m, k, c);
-    if k <= r {
-        return;
-    }
-    m[r] = FREE;
-    search(g, k, l, r, y, z, m);
 }
 
 // What row i has in the answer: its column, or FREE. A matched pair whose gain is 0 is no pair of the answer.

@@ -18,7 +18,7 @@ use Rattle.model.specs.Values.{greatest, best}
 use Rattle.subtrees.specs.WeightLaws.{⊑-antisym, max-either}
 use Rattle.subtrees.specs.Matching.{Assign, gain, best-bounds}
 use Rattle.assignment.specs.Matching.{gained, weight, Injective}
-use Rattle.assignment.specs.State.{Solved}
+use Rattle.assignment.specs.State.{Solved, Dual}
 use Rattle.plan.specs.Pairs.{upW}
 
 -- ---- places of a list without repeats
@@ -165,12 +165,6 @@ columnOf cs A m c = getD A (m (place c cs)) 0
 pub record Chosen (cs A : List ℕ) (g : ℕ → ℕ → ℕ) (m : ℕ → ℕ) (on : ℕ → Bool) : Type 0 where
   pub yes : (c : ℕ) → T (mem c cs) → T (on c) → 0 < rowGain cs A g m c
   pub no : (c : ℕ) → T (mem c cs) → on c ≡ false → rowGain cs A g m c ≡ 0
-
--- duals that cover every gain, and a matching that weighs as much as they
-pub record Dual (k l : ℕ) (g : ℕ → ℕ → ℕ) (y z m : ℕ → ℕ) : Type 0 where
-  pub feasible : (i j : ℕ) → i < k → j < l → g i j ≤ y i + z j
-  pub injective : Injective k l m
-  pub equal : weight k l g m ≡ sum k y + sum l z
 
 pub solved-dual : {k l : ℕ} {g : ℕ → ℕ → ℕ} {y z m : ℕ → ℕ} → Solved k l g y z m → Dual k l g y z m
 solved-dual S = record { feasible = S .feasible; injective = S .injective; equal = S .equal }

@@ -23,6 +23,7 @@ use Rattle.trees.specs.Neighbours.{few-neighbours, once-neighbours, mem-adjacen
 use Rattle.trees.specs.Rooted.{no-self, child-of, once-children}
 use Rattle.trees.specs.Positions.{sub-at, index-child}
 use Rattle.assignment.specs.Matching.{cell}
+use Rattle.assignment.specs.State.{Sized}
 use Rattle.subtrees.specs.Matching.{best-ext}
 use Rattle.subtrees.specs.Filling.{length-fill, fill-more, fill-keeps, solve-forbidden, solve-stored}
 use Rattle.plan.specs.Plan.{childCountIn, degreeIn, offsetIn, orderIn, Ready, Lent, Pair}
@@ -143,6 +144,16 @@ module _ {table r f : List ℕ} {plan : List (List ℕ)} (N : Ready table r f pl
           columns = omega (arith, b, degree-few N (R .pair));
           choice = omega arith;
           small = λ x y hx hy. D .get x y (omega arith) (omega arith) .1;
+        }
+
+    pub run-sized : (work : List ℤ) (g : List ℕ) (k l : ℕ) → k ≡ childCountIn plan u → l ≡ degreeIn plan v → Filled (length (children r u)) (length (neighbours f v)) (gainAt table r f (recalled r f work) u v) g → Sized k l (cell g)
+    run-sized work g k l ek el D =
+        let a : k ≡ length (children r u) = ek ∙ N .planned .recorded u (R .pair .u-low) .child-count in
+        let b : l ≡ length (neighbours f v) = el ∙ N .planned .found v (R .pair .v-low) .degree in
+        record {
+          rows = omega (arith, a, children-few N (R .pair));
+          columns = omega (arith, b, degree-few N (R .pair));
+          gains = λ x y hx hy. let s = D .get x y (omega arith) (omega arith) .1 in omega arith;
         }
 
     -- the number of the i-th

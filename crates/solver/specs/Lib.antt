@@ -4,4 +4,5 @@ pub mod Heaviest
 pub mod Choice
 pub mod Branches
 pub mod FillLaws
+pub mod Bound
 pub mod Mates

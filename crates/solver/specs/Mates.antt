@@ -28,7 +28,8 @@ use Rattle.assignment.specs.State.{Answer, Partner}
 use Rattle.plan.specs.Plan.{neighbourIn, childCountIn, degreeIn, Ready, Pair}
 use Rattle.plan.specs.Numbers.{SlotAt, ready-accepted}
 use Rattle.solver.specs.Choice.{mateIn, hasMate, ChoiceAt}
-use Rattle.solver.specs.Exact.{Gains, Dual, solved-dual, left-of, rowGain, columnOf, Chosen, chosen-assign, chosen-best}
+use Rattle.assignment.specs.State.{Dual}
+use Rattle.solver.specs.Exact.{Gains, solved-dual, left-of, rowGain, columnOf, Chosen, chosen-assign, chosen-best}
 use Rattle.solver.specs.Heaviest.{LeftOut, Table, Stands, stands-gains}
 use Rattle.plan.specs.Pairs.{gainAt, Filled, children-few, degree-few}
 

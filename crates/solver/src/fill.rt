@@ -1,6 +1,8 @@
-//! Filling: count subproblems from a position on, each from the work numbers before it. What u, and what u and v, have in common is found once.
+//! Filling: count subproblems from a position on, each from the work numbers before it. What u, and what u and v, have in common is found once: the
+//! gains, and from them the weight of the matching for each choice of s. The path searches that this takes are counted.
 use crate::subproblem::gains;
-use crate::subproblem::heaviest;
+use assignment::Counts;
+use assignment::weights::weights;
 use formats::tree::vertex_count;
 use integers::lesser;
 use model::Gains;
@@ -20,7 +22,9 @@ ghost use Rattle.model.specs.Limits.{pairLimit};
 ghost use Rattle.model.specs.Order.{subproblems};
 ghost use Rattle.model.specs.Values.{fill};
 ghost use Rattle.plan.specs.Plan.{Ready, Lent};
+ghost use Rattle.assignment.specs.Counts.{Searches, Countable};
 ghost use Rattle.solver.specs.FillLaws.{repeated, RowRun, PairRun};
+ghost use Rattle.solver.specs.Bound.{pairMost, searchMost};
 
 // The same number count times.
 fn repeat(work: &mut [i32], x: i32, from: usize, count: usize)
@@ -42,8 +46,10 @@ struct Run {
     count: usize,
 }
 
-// Of the subproblems of u and v a run that begins with the first-th choice of s. The gains are found in g, whatever stood there.
+// Of the subproblems of u and v a run that begins with the first-th choice of s, by at most one search for each child of u and one for each neighbour of
+// v. The gains are found in g, whatever stood there.
 fn fill_pair(
+    counts: &mut Counts,
     g: &mut Gains,
     table: &[u8],
     recorded: &[u8],
@@ -58,7 +64,8 @@ fn fill_pair(
     requires { ⌜ Lent (now recorded) (now found) (now work) ⌝ }
     requires { ⌜ PairRun (now recorded) (now found) u v (run .first) (run .from) (run .count) ⌝ }
     requires { ⌜ length (now g) ≡ pairLimit ⌝ }
-    ensures { λ _. ⌜ (now (work .exit) ≡ fill (now (table .entry)) (now (recorded .entry)) (now (found .entry)) (now (work .entry)) (run .from) (run .count)) × (length (now (g .exit)) ≡ pairLimit) ⌝ }
+    requires { ⌜ Countable (pairMost (now recorded) (now found) u v) (now counts) ⌝ }
+    ensures { λ _. ⌜ (now (work .exit) ≡ fill (now (table .entry)) (now (recorded .entry)) (now (found .entry)) (now (work .entry)) (run .from) (run .count)) × (length (now (g .exit)) ≡ pairLimit) × (Searches (pairMost (now (recorded .entry)) (now (found .entry)) u v) (now (counts .entry)) (now (counts .exit))) ⌝ }
 {
     let w = vertex_pair(table, plan, u, v);
     let k = child_count(plan, u);
@@ -75,10 +82,11 @@ fn fill_pair(
         return;
     }
     gains(g, table, recorded, found, plan, work, u, v);
+    let mut t = [0u64; Limits::PLACES + 1];
+    weights(&mut t, counts, g, k, l);
     let mut i = 0;
     while i < count {
-        let total = heaviest(g, k, l, first + i);
-        let x = integers::stored_value(w, total);
+        let x = integers::stored_value(w, t[first + i]);
         work[from + i] = x;
         i += 1;
     }
@@ -86,6 +94,7 @@ fn fill_pair(
 
 // Of the subproblems of u a run.
 fn fill_row(
+    counts: &mut Counts,
     g: &mut Gains,
     table: &[u8],
     recorded: &[u8],
@@ -99,7 +108,8 @@ fn fill_row(
     requires { ⌜ Lent (now recorded) (now found) (now work) ⌝ }
     requires { ⌜ RowRun (now recorded) (now found) u (run .first) (run .from) (run .count) ⌝ }
     requires { ⌜ length (now g) ≡ pairLimit ⌝ }
-    ensures { λ _. ⌜ (now (work .exit) ≡ fill (now (table .entry)) (now (recorded .entry)) (now (found .entry)) (now (work .entry)) (run .from) (run .count)) × (length (now (g .exit)) ≡ pairLimit) ⌝ }
+    requires { ⌜ Countable (searchMost (now recorded) (now found) (run .from) (run .count)) (now counts) ⌝ }
+    ensures { λ _. ⌜ (now (work .exit) ≡ fill (now (table .entry)) (now (recorded .entry)) (now (found .entry)) (now (work .entry)) (run .from) (run .count)) × (length (now (g .exit)) ≡ pairLimit) × (Searches (searchMost (now (recorded .entry)) (now (found .entry)) (run .from) (run .count)) (now (counts .entry)) (now (counts .exit))) ⌝ }
 {
     let m = vertex_count(found);
     let first = run.first;
@@ -117,14 +127,15 @@ fn fill_row(
             from: at,
             count: c,
         };
-        fill_pair(g, table, recorded, found, plan, work, u, t, part);
+        fill_pair(counts, g, table, recorded, found, plan, work, u, t, part);
         v = t;
         i += c;
     }
 }
 
-// The subproblems from, from + 1, .. below from + count, in order.
-pub fn fill(
+// The subproblems from, from + 1, .. below from + count, in order. What it counts is added to the counts.
+pub fn fill_counted(
+    counts: &mut Counts,
     table: &[u8],
     recorded: &[u8],
     found: &[u8],
@@ -136,7 +147,8 @@ pub fn fill(
     requires { ⌜ Ready (now table) (now recorded) (now found) (now plan) ⌝ }
     requires { ⌜ Lent (now recorded) (now found) (now work) ⌝ }
     requires { ⌜ from + count ≤ subproblems (now recorded) (now found) ⌝ }
-    ensures { λ _. ⌜ now (work .exit) ≡ fill (now (table .entry)) (now (recorded .entry)) (now (found .entry)) (now (work .entry)) from count ⌝ }
+    requires { ⌜ Countable (searchMost (now recorded) (now found) from count) (now counts) ⌝ }
+    ensures { λ _. ⌜ (now (work .exit) ≡ fill (now (table .entry)) (now (recorded .entry)) (now (found .entry)) (now (work .entry)) from count) × (Searches (searchMost (now (recorded .entry)) (now (found .entry)) from count) (now (counts .entry)) (now (counts .exit))) ⌝ }
 {
     let width = width_of(found);
     let mut g = [0u64; Limits::PAIRS];
@@ -151,7 +163,26 @@ pub fn fill(
             from: p,
             count: c,
         };
-        fill_row(&mut g, table, recorded, found, plan, work, u, run);
+        fill_row(counts, &mut g, table, recorded, found, plan, work, u, run);
         i += c;
     }
+}
+
+// The same where no one asks for the counts.
+pub fn fill(
+    table: &[u8],
+    recorded: &[u8],
+    found: &[u8],
+    plan: &Plan,
+    work: &mut [i32],
+    from: usize,
+    count: usize,
+)
+    requires { ⌜ Ready (now table) (now recorded) (now found) (now plan) ⌝ }
+    requires { ⌜ Lent (now recorded) (now found) (now work) ⌝ }
+    requires { ⌜ from + count ≤ subproblems (now recorded) (now found) ⌝ }
+    ensures { λ _. ⌜ now (work .exit) ≡ fill (now (table .entry)) (now (recorded .entry)) (now (found .entry)) (now (work .entry)) from count ⌝ }
+{
+    let mut counts = [0u64; Limits::PAIRS + 1];
+    fill_counted(&mut counts, table, recorded, found, plan, work, from, count);
 }

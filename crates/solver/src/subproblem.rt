@@ -1,4 +1,4 @@
-//! One subproblem from the work numbers before it: the gains of its branches, their heaviest matching, and what it matches. The work
+//! One subproblem from the work numbers before it: the gains of its branches, and what their heaviest matching matches. The work
 //! numbers may be any: a gain is below 2^32, and so eight of them are far below the matching's limit.
 use assignment::FREE;
 use model::Gains;
@@ -19,10 +19,9 @@ use plan::weights::gain_of;
 use plan::wide;
 ghost use Prim.Native.Nat.{_<_, _≤_};
 ghost use mathlib.Core.Path.{_≡_};
-ghost use mathlib.Core.Bool.{true};
 ghost use lib.ListN.{length};
 ghost use Rattle.plan.specs.Pairs.{gainAt, RowFilled, Filled};
-ghost use Rattle.solver.specs.Heaviest.{outOf, LeftOut, larger, rowMost, tableMost, Table, Narrow, HeaviestMatching};
+ghost use Rattle.solver.specs.Heaviest.{LeftOut};
 ghost use Rattle.plan.specs.Plan.{neighbourIn, Ready, Lent, Pair};
 ghost use Rattle.solver.specs.Choice.{ChoiceAt};
 ghost use Rattle.solver.specs.Mates.{nameOr, Mates};
@@ -89,72 +88,6 @@ pub fn gains(
     }
 }
 
-// The gain in row i and column j, 0 where choice c leaves column j out.
-fn gain_or_zero(g: &Gains, i: usize, j: usize, c: usize) -> u64
-    requires { ⌜ (i < degreeLimit) × (j < degreeLimit) ⌝ }
-    ensures { λ r. ⌜ r ≡ outOf c (cell (now (g .entry))) i j ⌝ }
-{
-    if j + 1 == c {
-        return 0;
-    }
-    g[i * Limits::PLACES + j]
-}
-
-fn larger_of(a: u64, b: u64) -> u64
-    ensures { λ r. ⌜ r ≡ larger a b ⌝ }
-{
-    if b < a { a } else { b }
-}
-
-// The greatest gain of row i and `most`.
-fn row_most(g: &Gains, i: usize, l: usize, c: usize, most: u64) -> u64
-    requires { ⌜ (i < degreeLimit) × (l ≤ degreeLimit) ⌝ }
-    ensures { λ r. ⌜ r ≡ rowMost l (outOf c (cell (now (g .entry))) i) most ⌝ }
-{
-    let mut m = most;
-    let mut j = 0;
-    while j < l {
-        let x = gain_or_zero(g, i, j, c);
-        m = larger_of(x, m);
-        j += 1;
-    }
-    m
-}
-
-// The greatest gain of k rows and l columns, 0 if there is none.
-fn table_most(g: &Gains, k: usize, l: usize, c: usize) -> u64
-    requires { ⌜ (k ≤ degreeLimit) × (l ≤ degreeLimit) ⌝ }
-    ensures { λ r. ⌜ r ≡ tableMost k l (outOf c (cell (now (g .entry)))) ⌝ }
-{
-    let mut m = 0;
-    let mut i = 0;
-    while i < k {
-        m = row_most(g, i, l, c, m);
-        i += 1;
-    }
-    m
-}
-
-// One row, or one column at most besides the one that choice c leaves out.
-fn is_narrow(k: usize, l: usize, c: usize) -> bool
-    requires { ⌜ c ≤ l ⌝ }
-    ensures { λ r. ⌜ (r ≡ true → Narrow k l c) ⌝ }
-{
-    if k == 1 {
-        return true;
-    }
-    if l < 2 {
-        return true;
-    }
-    if 2 < l {
-        return false;
-    }
-    if c < 1 {
-        return false;
-    }
-    true
-}
-
 // The column that choice c leaves out set to 0.
 pub fn leave_out(g: &mut Gains, k: usize, c: usize)
     requires { ⌜ (length (now g) ≡ pairLimit) × (k ≤ degreeLimit) × (c ≤ degreeLimit) ⌝ }
@@ -164,26 +97,6 @@ pub fn leave_out(g: &mut Gains, k: usize, c: usize)
         return;
     }
     assignment::clear(g, k, c - 1);
-}
-
-// The weight of the heaviest matching of k rows and l columns but the one that choice c leaves out: none for 0, else column c - 1. One row or
-// one column has its greatest gain.
-pub(crate) fn heaviest(g: &Gains, k: usize, l: usize, c: usize) -> u64
-    requires { ⌜ length (now g) ≡ pairLimit ⌝ }
-    requires { ⌜ Table k l c (cell (now g)) ⌝ }
-    ensures { λ r. ⌜ HeaviestMatching k l c (cell (now (g .entry))) r ⌝ }
-{
-    let narrow = is_narrow(k, l, c);
-    if narrow {
-        return table_most(g, k, l, c);
-    }
-    let mut h = *g;
-    leave_out(&mut h, k, c);
-    let mut y = [0u64; Limits::PLACES];
-    let mut z = [0u64; Limits::PLACES];
-    let mut m = [FREE; Limits::PLACES];
-    assignment::solve(&h, k, l, &mut y, &mut z, &mut m);
-    assignment::total(k, l, &y, &z)
 }
 
 // The neighbour of v in column p, 255 where p is none.

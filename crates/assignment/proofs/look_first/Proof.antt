@@ -1,67 +1,40 @@
--- `assignment::look_first` meets its contract. The invariant is `First` of the columns passed. Assumes nothing.
+-- `assignment::look_first` meets its contract. The invariant is `First` of the columns passed, and the row tried so far. Assumes nothing.
 use mathlib.Core.Path.{refl}
-use Prim.Native.Nat.{_+_, _-_, _≤_}
+use Prim.Native.Nat.{_+_, _-_, _≤_, _<_}
+use Rattle.model.specs.Limits.{degreeLimit}
 use native.Mathlib.Omega.{arith}
 use borrow.Author.Needs.{needs}
 use Rattle.assignment.specs.Loops.{First}
-use Rattle.assignment.specs.Matching.{at, cell, gainLimit}
+use Rattle.assignment.specs.Matching.{at, cell, outOf, gainLimit}
+use Rattle.assignment.specs.Counts.{Tried}
 use Rattle.assignment.proofs.Leaves.{first-none, first-more, first-end}
+use Rattle.assignment.proofs.Counting.{tried-none, tried-more, tried-low, tried-end}
 use Rattle.assignment.proofs.look_first.Statement.{statement}
 use Rattle.assignment.proofs.look_first.Tie as tie
 
 abbrev Inv-loop : tie.InvT-loop
-Inv-loop dist₀ g z l r b₀ d₀ j₀ dist b d j = (j ≤ l) × First j (λ x. gainLimit + at z x - cell g r x) dist₀ dist b d
+Inv-loop counts₀ dist₀ g z l c r b₀ d₀ j₀ counts dist b d j = (j ≤ l) × First j (λ x. gainLimit + at z x - outOf c (cell g) r x) dist₀ dist b d × Tried c r j counts₀ counts
 
 abbrev μ-loop : tie.MeasureT-loop
-μ-loop dist₀ g z l r b₀ d₀ j₀ dist b d j = l - j
+μ-loop counts₀ dist₀ g z l c r b₀ d₀ j₀ counts dist b d j = l - j
 
 loop-holds : tie.Need-loop-holds Inv-loop μ-loop
-loop-holds c = (search needs, first-none _ _)
+loop-holds c = (search needs, first-none _ _, tried-none _ _ _)
 
-mul-s : tie.Need-mul-s Inv-loop μ-loop
-mul-s c = search needs
-
-element-copy-out-s : tie.Need-element-copy-out-s Inv-loop μ-loop
-element-copy-out-s c = search needs
+look-at-requires : tie.Need-look-at-requires Inv-loop μ-loop
+look-at-requires c κs = let p = c .before .before .before .pre in let i = c .before .before .loop .inv in let q : c .before .before .loop .j < degreeLimit = omega (arith, p .0 .1, c .before .loop-test .taken) in let t = tried-low (p .1) (i .2) q in (t .0, p .0 .2, q, t .1)
 
 add-s : tie.Need-add-s Inv-loop μ-loop
-add-s c =
-    omega (arith, c .before .before .before .pre .3 (c .before .before .loop .j) (c .before .loop-test .taken) .0)
-
-mul-s-2 : tie.Need-mul-s-2 Inv-loop μ-loop
-mul-s-2 c = search needs
-
-add-s-2 : tie.Need-add-s-2 Inv-loop μ-loop
-add-s-2 c = search needs
-
-mul-s-3 : tie.Need-mul-s-3 Inv-loop μ-loop
-mul-s-3 c = search needs
-
-element-copy-out-s-2 : tie.Need-element-copy-out-s-2 Inv-loop μ-loop
-element-copy-out-s-2 c = search needs
+add-s c = omega (arith, c .before .before .before .before .before .pre .0 .3 (c .before .before .before .before .loop .j) (c .before .before .before .loop-test .taken) .0)
 
 sub-s : tie.Need-sub-s Inv-loop μ-loop
-sub-s c =
-    omega (arith, c .before .before .before .before .pre .3 (c .before .before .before .loop .j) (c .before .before .loop-test .taken) .1)
-
-mul-dist : tie.Need-mul-dist Inv-loop μ-loop
-mul-dist c = search needs
-
-element-write-dist : tie.Need-element-write-dist Inv-loop μ-loop
-element-write-dist c = search needs
-
-place-of-requires : tie.Need-place-of-requires Inv-loop μ-loop
-place-of-requires c κs = search needs
-
-less-of-requires : tie.Need-less-of-requires Inv-loop μ-loop
-less-of-requires c κs = search needs
+sub-s c = omega (arith, c .before .before .before .before .before .pre .0 .3 (c .before .before .before .before .loop .j) (c .before .before .before .loop-test .taken) .1, c .before .look-at .ensures .0)
 
 loop-again : tie.Need-loop-again Inv-loop μ-loop
-loop-again c =
-    (search needs, first-more _ (c .before .before .before .before .before .loop .inv .1) (search needs) refl (c .before .place-of .ensures) (c .less-of .ensures))
+loop-again c = let i = c .before .before .before .before .before .before .loop .inv in (search needs, first-more _ (i .1) (search needs) (rw (c .before .before .before .look-at .ensures .0) refl) (c .before .place-of .ensures) (c .less-of .ensures), tried-more (i .2) (c .before .before .before .before .before .before .before .pre .1 .size) (c .before .before .before .before .before .before .before .pre .0 .2) (omega (arith, c .before .before .before .before .before .before .before .pre .0 .1, c .before .before .before .before .before .loop-test .taken)) (c .before .before .before .look-at .ensures .1))
 
 returns : tie.Need-returns Inv-loop μ-loop
-returns c = first-end (c .before .loop .inv .1) (c .loop-test .left) (c .before .loop .inv .0)
+returns c = (first-end (c .before .loop .inv .1) (c .loop-test .left) (c .before .loop .inv .0), tried-end (c .before .loop .inv .2) (c .loop-test .left) (c .before .loop .inv .0))
 
 pub look-first-spec : {M : Type 1} → statement M
 look-first-spec =
@@ -70,18 +43,15 @@ look-first-spec =
     Inv-loop
     μ-loop
     loop-holds
-    mul-s
-    element-copy-out-s
+    look-at-requires
+    (λ c. search needs)
+    (λ c. search needs)
     add-s
-    mul-s-2
-    add-s-2
-    mul-s-3
-    element-copy-out-s-2
     sub-s
-    mul-dist
-    element-write-dist
-    place-of-requires
-    less-of-requires
+    (λ c. search needs)
+    (λ c. search needs)
+    (λ c κs. search needs)
+    (λ c κs. search needs)
     (λ c. search needs)
     (λ c. search needs)
     loop-again

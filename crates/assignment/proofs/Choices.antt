@@ -1,0 +1,167 @@
+-- The weights of a table for each choice: of one row, and from the answer of all columns. Assumes nothing.
+use mathlib.Core.Path.{_≡_, refl, sym, ap, subst, _∙_}
+use mathlib.Core.Logic.{⊎-elim, _≢_}
+use mathlib.Core.Bool.{Bool, cond}
+use mathlib.Core.List.{List}
+use Prim.Native.Nat.{ℕ, _+_, _*_, _-_, _≤_, _<_}
+use native.Mathlib.Omega.{arith}
+use native.Mathlib.Nat.{not-suc-le-zero}
+use lib.Dec.{ltb}
+use lib.ListN.{length, set, length-set, replicate, getD-replicate}
+use lib.Seq.{getD-set-same, getD-set-other}
+use borrow.Author.Count.{below-more}
+use borrow.Author.Tests.{lt-ltb, le-ltb}
+use Rattle.foundations.specs.Tests.{same?, less?}
+use Rattle.foundations.specs.Sums.{sum, sum-zero, sum-ext}
+use Rattle.model.specs.Limits.{degreeLimit}
+use Rattle.assignment.specs.Matching.{at, outOf, out-yes, out-no, gained, weight}
+use Rattle.assignment.specs.State.{Sized, Solved, Total, Heaviest, WeightsOf}
+use Rattle.assignment.specs.Loops.{whoOf, Greatest}
+use Rattle.assignment.proofs.Roots.{out-none, heaviest-solved}
+
+-- ---- the greatest gain of a row
+
+pub greatest-none : (f : ℕ → ℕ) (b : ℕ) → Greatest 0 f b 0
+greatest-none f b = record { most = λ x h. absurd (not-suc-le-zero h); found = λ h. absurd (omega arith) }
+
+pub greatest-more : {j b d b′ d′ : ℕ} {f : ℕ → ℕ} (x : ℕ) → Greatest j f b d → x ≡ f j → b′ ≡ whoOf d x j b → d′ ≡ whoOf d x x d → Greatest (j + 1) f b′ d′
+greatest-more {j} {b} {d} {b′} {d′} {f} x G ex eb ed = ⊎-elim more less (less? d x)
+  where
+    more : d < x → Greatest (j + 1) f b′ d′
+    more h =
+        let p : b′ ≡ j = eb ∙ rw (lt-ltb d x h) in
+        let q : d′ ≡ x = ed ∙ rw (lt-ltb d x h) in
+        record { most = below-more (λ (i : ℕ). f i ≤ d′) j (λ i l. omega (arith, G .most i l)) (omega arith); found = λ _. (omega arith, ap f p ∙ sym ex ∙ sym q) }
+
+    less : x ≤ d → Greatest (j + 1) f b′ d′
+    less h =
+        let p : b′ ≡ b = eb ∙ rw (le-ltb d x h) in
+        let q : d′ ≡ d = ed ∙ rw (le-ltb d x h) in
+        record { most = below-more (λ (i : ℕ). f i ≤ d′) j (λ i l. omega (arith, G .most i l)) (omega arith); found = λ u. let w = G .found (omega arith) in (omega (arith, w .0), ap f p ∙ w .1 ∙ sym q) }
+
+pub greatest-end : {j l b d : ℕ} {f : ℕ → ℕ} → Greatest j f b d → l ≤ j → j ≤ l → Greatest l f b d
+greatest-end {j} {l} {b} {d} {f} G p q = subst (λ (x : ℕ). Greatest x f b d) (let e : j ≡ l = omega arith in e) G
+
+-- it stays where the column left out is another
+pub greatest-rest : {l b d : ℕ} (c : ℕ) (g : ℕ → ℕ → ℕ) → Greatest l (outOf 0 g 0) b d → (0 < d → b + 1 ≢ c) → Greatest l (outOf c g 0) b d
+greatest-rest {l} {b} {d} c g G apart = record {
+  most = λ x h. ⊎-elim (λ e. omega (arith, out-yes c g 0 x e)) (λ n. omega (arith, out-no c g 0 x n, out-none g 0 x, G .most x h)) (same? (x + 1) c);
+  found = λ h. let w = G .found h in (w .0, out-no c g 0 b (apart h) ∙ sym (out-none g 0 b) ∙ w .1);
+}
+
+-- ---- one row
+
+none-sum : (n : ℕ) → sum n (λ j. 0) ≡ 0
+none-sum n = sum-zero n (λ j. 0) (λ j h. refl)
+
+one-sum : (f : ℕ → ℕ) → sum 1 f ≡ f 0
+unfolding sum
+one-sum f = omega arith
+
+pub row-heaviest : {l b d : ℕ} {h : ℕ → ℕ → ℕ} → Greatest l (h 0) b d → Heaviest 1 l h d
+unfolding weight gained
+row-heaviest {l} {b} {d} {h} G = ⊎-elim some nothing (less? 0 d)
+  where
+    covers : (i j : ℕ) → i < 1 → j < l → h i j ≤ d + 0
+    covers i j hi hj = let e : i ≡ 0 = omega arith in rw e (omega (arith, G .most j hj))
+
+    some : 0 < d → Heaviest 1 l h d
+    some p =
+        let w = G .found p in record {
+          y = λ i. d;
+          z = λ j. 0;
+          m = λ i. b;
+          dual = record {
+            feasible = covers;
+            injective = λ i j hi hj lt e. omega arith;
+            equal = one-sum (gained l h (λ i. b)) ∙ rw (lt-ltb b l (w .0)) (omega (arith, w .1, one-sum (λ i. d), none-sum l));
+          };
+          total = omega (arith, one-sum (λ i. d), none-sum l);
+        }
+
+    nothing : d ≤ 0 → Heaviest 1 l h d
+    nothing p = record {
+      y = λ i. d;
+      z = λ j. 0;
+      m = λ i. l;
+      dual = record {
+        feasible = covers;
+        injective = λ i j hi hj lt e. omega arith;
+        equal = one-sum (gained l h (λ i. l)) ∙ rw (le-ltb l l (omega arith)) (omega (arith, one-sum (λ i. d), none-sum l));
+      };
+      total = omega (arith, one-sum (λ i. d), none-sum l);
+    }
+
+many : (x v : ℕ) → x ≤ degreeLimit → at (replicate (degreeLimit + 1) v) x ≡ v
+many x v h = getD-replicate {A = ℕ} (degreeLimit + 1) x v 0 (omega arith)
+
+-- no gain
+pub row-none : {l b d : ℕ} {g : ℕ → ℕ → ℕ} → l ≤ degreeLimit → Greatest l (outOf 0 g 0) b d → d ≤ 0 → WeightsOf 1 l g (replicate (degreeLimit + 1) d)
+row-none {l} {b} {d} {g} few G z = record {
+  size = refl;
+  each = λ c h. subst (λ (x : ℕ). Heaviest 1 l (outOf c g) x) (sym (many c d (omega arith))) (row-heaviest {b = b} (greatest-rest c g G (λ p. absurd (omega arith))));
+}
+
+-- the best column is left out by another search
+pub row-some : {l b d b′ d′ : ℕ} {g : ℕ → ℕ → ℕ} → l ≤ degreeLimit → Greatest l (outOf 0 g 0) b d → 0 < d → Greatest l (outOf (b + 1) g 0) b′ d′ → WeightsOf 1 l g (set (replicate (degreeLimit + 1) d) (b + 1) d′)
+row-some {l} {b} {d} {b′} {d′} {g} few G p R = record {
+  size = length-set (replicate (degreeLimit + 1) d) (b + 1) d′;
+  each = λ c h. ⊎-elim
+      (λ e. subst (λ (x : ℕ). Heaviest 1 l (outOf x g) (at (set (replicate (degreeLimit + 1) d) (b + 1) d′) x)) (sym e)
+      (subst (λ (x : ℕ). Heaviest 1 l (outOf (b + 1) g) x) (sym (getD-set-same (replicate (degreeLimit + 1) d) (b + 1) d′ 0 (omega arith))) (row-heaviest {b = b′} R)))
+      (λ n. subst (λ (x : ℕ). Heaviest 1 l (outOf c g) x) (sym (getD-set-other (replicate (degreeLimit + 1) d) (b + 1) c d′ 0 n ∙ many c d (omega arith))) (row-heaviest {b = b} (greatest-rest c g G (λ _ q. n (sym q)))))
+      (same? c (b + 1));
+}
+
+-- ---- any number of rows
+
+-- nothing is left out
+pub all-heaviest : {k l : ℕ} {g : ℕ → ℕ → ℕ} {y z m : ℕ → ℕ} {r : ℕ} → Solved k l g y z m → Total k l y z r → Heaviest k l (outOf 0 g) r
+unfolding weight gained
+all-heaviest {k} {l} {g} {y} {z} {m} S N = record {
+  y = y;
+  z = z;
+  m = m;
+  dual = record {
+    feasible = λ i j hi hj. omega (arith, out-none g i j, S .feasible i j hi hj);
+    injective = S .injective;
+    equal = sum-ext k (gained l (outOf 0 g) m) (gained l g m) (λ i hi. ap (λ (x : ℕ). cond (ltb (m i) l) x 0) (out-none g i (m i))) ∙ S .equal;
+  };
+  total = N .equal;
+}
+
+-- the weights of the choices up to c are there, and those after it are that of all
+pub record Filled (k l : ℕ) (g : ℕ → ℕ → ℕ) (all c : ℕ) (t : List ℕ) : Type 0 where
+  pub size : length t ≡ degreeLimit + 1
+  pub done : (x : ℕ) → x ≤ c → Heaviest k l (outOf x g) (at t x)
+  pub rest : (x : ℕ) → c < x → x ≤ l → at t x ≡ all
+
+pub filled-start : {k l : ℕ} {g : ℕ → ℕ → ℕ} {all : ℕ} → l ≤ degreeLimit → Heaviest k l (outOf 0 g) all → Filled k l g all 0 (replicate (degreeLimit + 1) all)
+filled-start {k} {l} {g} {all} few H = record {
+  size = refl;
+  done = λ x h. let e : x ≡ 0 = omega arith in rw e H;
+  rest = λ x p h. many x all (omega arith);
+}
+
+pub filled-stays : {k l c : ℕ} {g : ℕ → ℕ → ℕ} {all : ℕ} {t : List ℕ} → Filled k l g all c t → c < l → Heaviest k l (outOf (c + 1) g) all → Filled k l g all (c + 1) t
+filled-stays {k} {l} {c} {g} {all} {t} F h H = record {
+  size = F .size;
+  done = λ x p. ⊎-elim
+      (λ e. subst (λ (i : ℕ). Heaviest k l (outOf i g) (at t i)) (sym e) (subst (λ (w : ℕ). Heaviest k l (outOf (c + 1) g) w) (sym (F .rest (c + 1) (omega arith) (omega arith))) H))
+      (λ n. F .done x (omega (arith, n)))
+      (same? x (c + 1));
+  rest = λ x p q. F .rest x (omega arith) q;
+}
+
+pub filled-set : {k l c : ℕ} {g : ℕ → ℕ → ℕ} {all : ℕ} {t : List ℕ} (w : ℕ) → l ≤ degreeLimit → Filled k l g all c t → c < l → Heaviest k l (outOf (c + 1) g) w → Filled k l g all (c + 1) (set t (c + 1) w)
+filled-set {k} {l} {c} {g} {all} {t} w few F h H = record {
+  size = length-set t (c + 1) w ∙ F .size;
+  done = λ x p. ⊎-elim
+      (λ e. subst (λ (i : ℕ). Heaviest k l (outOf i g) (at (set t (c + 1) w) i)) (sym e) (subst (λ (v : ℕ). Heaviest k l (outOf (c + 1) g) v) (sym (getD-set-same t (c + 1) w 0 (omega (arith, F .size)))) H))
+      (λ n. subst (λ (v : ℕ). Heaviest k l (outOf x g) v) (sym (getD-set-other t (c + 1) x w 0 n)) (F .done x (omega (arith, n))))
+      (same? x (c + 1));
+  rest = λ x p q. getD-set-other t (c + 1) x w 0 (λ e. omega (arith, e)) ∙ F .rest x (omega arith) q;
+}
+
+pub filled-end : {k l c : ℕ} {g : ℕ → ℕ → ℕ} {all : ℕ} {t : List ℕ} → Filled k l g all c t → l ≤ c → WeightsOf k l g t
+filled-end F h = record { size = F .size; each = λ c p. F .done c (omega arith) }

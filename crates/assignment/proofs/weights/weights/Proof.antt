@@ -1,0 +1,20 @@
+-- `weights` meets its contract. Assumes nothing.
+use native.Mathlib.Omega.{arith}
+use borrow.Author.Needs.{needs}
+use Rattle.assignment.proofs.weights.weights.Statement.{statement}
+use Rattle.assignment.proofs.weights.weights.Tie as tie
+
+row-weights-requires : tie.Need-row-weights-requires
+row-weights-requires c κs = let e = c .before .before .if1 .taken in rw e at (c .before .before .before .pre)
+
+returns : tie.Need-returns
+returns c = let e = c .before .before .before .if1 .taken in rw e (c .row-weights .ensures)
+
+pub weights-spec : {M : Type 1} → statement M
+weights-spec =
+    tie.close
+    (tie.spec
+    row-weights-requires
+    returns
+    (λ c κs. search needs)
+    (λ c. search needs))

@@ -1,0 +1,134 @@
+//! The weight of the heaviest matching for each choice, from one matching: the whole, and from it the matching without each column by one further search at
+//! most. There are at most as many searches as rows and columns, all of them counted.
+use crate::Counts;
+use crate::FREE;
+use crate::SEARCHES;
+use crate::look_at;
+use crate::owners;
+use crate::place;
+use crate::place_of;
+use crate::search;
+use crate::solve_counted;
+use crate::total;
+use model::Gains;
+use model::Limits;
+use model::Row;
+use model::WideRow;
+ghost use Prim.Native.Nat.{_+_, _-_, _<_, _≤_};
+ghost use mathlib.Core.Path.{_≡_};
+ghost use lib.ListN.{length};
+ghost use Rattle.model.specs.Limits.{degreeLimit};
+ghost use Rattle.assignment.specs.Matching.{at, cell, outOf};
+ghost use Rattle.assignment.specs.State.{Sized, Answer, Heaviest, WeightsOf};
+ghost use Rattle.assignment.specs.Loops.{whoOf, Greatest};
+ghost use Rattle.assignment.specs.Counts.{Search, Searches, Countable};
+
+// A weight for each choice: at 0 that of all columns, at c that without column c - 1.
+pub type Weights = [u64; Limits::PLACES + 1];
+
+// The greatest gain and the column that has it; of 0 the column says nothing.
+struct Best {
+    column: usize,
+    gain: u64,
+}
+
+fn more_of(new: u64, old: u64) -> u64
+    ensures { λ r. ⌜ r ≡ whoOf old new new old ⌝ }
+{
+    if old < new { new } else { old }
+}
+
+// The path search from the only row: each of its paths is a single pair.
+fn row_search(counts: &mut Counts, g: &Gains, l: usize, c: usize) -> Best
+    requires { ⌜ (l ≤ degreeLimit) × (Countable 1 (now counts)) ⌝ }
+    ensures { λ r. ⌜ (Greatest l (outOf c (cell (now (g .entry))) 0) (r .column) (r .gain)) × (Search (now (counts .entry)) (now (counts .exit))) ⌝ }
+{
+    counts[SEARCHES] += 1;
+    let mut b = Limits::PLACES;
+    let mut d = 0;
+    let mut j = 0;
+    while j < l {
+        let x = look_at(counts, g, c, 0, j);
+        b = place_of(d, x, j, b);
+        d = more_of(x, d);
+        j += 1;
+    }
+    Best {
+        column: b,
+        gain: d,
+    }
+}
+
+// One row: without a column that is not the best, its weight is that of all.
+fn row_weights(t: &mut Weights, counts: &mut Counts, g: &Gains, l: usize)
+    requires { ⌜ (Sized 1 l (cell (now g))) × (Countable (1 + l) (now counts)) ⌝ }
+    ensures { λ _. ⌜ (WeightsOf 1 l (cell (now (g .entry))) (now (t .exit))) × (Searches (1 + l) (now (counts .entry)) (now (counts .exit))) ⌝ }
+{
+    let all = row_search(counts, g, l, 0);
+    *t = [all.gain; Limits::PLACES + 1];
+    if 0 < all.gain {
+        let c = all.column + 1;
+        let rest = row_search(counts, g, l, c);
+        t[c] = rest.gain;
+    }
+}
+
+// The weight without the column that choice c leaves out, where row r has it in the answer of all columns: r is made pending and joins again by one search.
+fn rest_weight(
+    counts: &mut Counts,
+    g: &Gains,
+    k: usize,
+    l: usize,
+    c: usize,
+    r: usize,
+    y: WideRow,
+    z: WideRow,
+    m: Row,
+) -> u64
+    requires { ⌜ (Sized k l (cell (now g))) × (Answer k l (cell (now g)) y z m) × (r < k) × (1 ≤ c) × (at m r ≡ c - 1) × (c ≤ l) ⌝ }
+    requires { ⌜ Countable 1 (now counts) ⌝ }
+    ensures { λ w. ⌜ (Heaviest k l (outOf c (cell (now (g .entry)))) w) × (Search (now (counts .entry)) (now (counts .exit))) ⌝ }
+{
+    let mut y2 = y;
+    let mut z2 = z;
+    let mut m2 = m;
+    z2[c - 1] = 0;
+    m2[r] = FREE;
+    search(counts, g, k, l, c, r, &mut y2, &mut z2, &mut m2);
+    total(k, l, &y2, &z2)
+}
+
+// Any number of rows. Without a column that no row has, the weight is that of all.
+fn table_weights(t: &mut Weights, counts: &mut Counts, g: &Gains, k: usize, l: usize)
+    requires { ⌜ (Sized k l (cell (now g))) × (Countable (k + l) (now counts)) ⌝ }
+    ensures { λ _. ⌜ (WeightsOf k l (cell (now (g .entry))) (now (t .exit))) × (Searches (k + l) (now (counts .entry)) (now (counts .exit))) ⌝ }
+{
+    let mut y = [0u64; Limits::PLACES];
+    let mut z = [0u64; Limits::PLACES];
+    let mut m = [FREE; Limits::PLACES];
+    solve_counted(counts, g, k, l, &mut y, &mut z, &mut m);
+    let all = total(k, l, &y, &z);
+    let own = owners(&m, k);
+    *t = [all; Limits::PLACES + 1];
+    let mut c = 0;
+    while c < l {
+        let r = place(own[c]);
+        c += 1;
+        if r < Limits::PLACES {
+            let w = rest_weight(counts, g, k, l, c, r, y, z, m);
+            t[c] = w;
+        }
+    }
+}
+
+// The weight for each choice of the table's first k rows and l columns, by at most k + l searches.
+pub fn weights(t: &mut Weights, counts: &mut Counts, g: &Gains, k: usize, l: usize)
+    requires { ⌜ (Sized k l (cell (now g))) × (Countable (k + l) (now counts)) ⌝ }
+    ensures { λ _. ⌜ (WeightsOf k l (cell (now (g .entry))) (now (t .exit))) × (Searches (k + l) (now (counts .entry)) (now (counts .exit))) ⌝ }
+{
+    if k == 1 {
+        row_weights(t, counts, g, l);
+        return;
+    }
+    table_weights(t, counts, g, k, l);
+}
