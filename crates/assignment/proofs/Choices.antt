@@ -3,14 +3,14 @@ use mathlib.Core.Path.{_≡_, refl, sym, ap, subst, _∙_}
 use mathlib.Core.Logic.{⊎-elim, _≢_}
 use mathlib.Core.Bool.{Bool, cond}
 use mathlib.Core.List.{List}
-use Prim.Native.Nat.{ℕ, _+_, _*_, _-_, _≤_, _<_}
+use Prim.Native.Nat.{ℕ, zero, suc, _+_, _-_, _≤_, _<_}
 use native.Mathlib.Omega.{arith}
 use native.Mathlib.Nat.{not-suc-le-zero}
-use lib.Dec.{ltb}
+use lib.Dec.{ltb, eqb}
 use lib.ListN.{length, set, length-set, replicate, getD-replicate}
 use lib.Seq.{getD-set-same, getD-set-other}
 use borrow.Author.Count.{below-more}
-use borrow.Author.Tests.{lt-ltb, le-ltb}
+use borrow.Author.Tests.{eq-eqb, ne-eqb, lt-ltb, le-ltb}
 use Rattle.foundations.specs.Tests.{same?, less?}
 use Rattle.foundations.specs.Sums.{sum, sum-zero, sum-ext}
 use Rattle.model.specs.Limits.{degreeLimit}
@@ -111,6 +111,77 @@ row-some {l} {b} {d} {b′} {d′} {g} few G p R = record {
       (subst (λ (x : ℕ). Heaviest 1 l (outOf (b + 1) g) x) (sym (getD-set-same (replicate (degreeLimit + 1) d) (b + 1) d′ 0 (omega arith))) (row-heaviest {b = b′} R)))
       (λ n. subst (λ (x : ℕ). Heaviest 1 l (outOf c g) x) (sym (getD-set-other (replicate (degreeLimit + 1) d) (b + 1) c d′ 0 n ∙ many c d (omega arith))) (row-heaviest {b = b} (greatest-rest c g G (λ _ q. n (sym q)))))
       (same? c (b + 1));
+}
+
+-- ---- one column
+
+sum-single : (n a r : ℕ) → a < n → sum n (λ i. cond (eqb i a) r 0) ≡ r
+unfolding sum
+sum-single zero a r h = absurd (not-suc-le-zero h)
+sum-single (suc n) a r h = ⊎-elim
+    (λ e. rw (eq-eqb n a (sym e)) (let z : sum n (λ i. cond (eqb i a) r 0) ≡ 0 = sum-zero n (λ i. cond (eqb i a) r 0) (λ i l. let q : i ≢ a = λ p. omega (arith, p) in rw (ne-eqb i a q)) in omega arith))
+    (λ e. rw (ne-eqb n a (λ q. e (sym q))) (let z = sum-single n a r (omega arith) in omega arith))
+    (same? a n)
+
+-- no pair gains
+pub none-heaviest : {k l : ℕ} {h : ℕ → ℕ → ℕ} → ((i j : ℕ) → i < k → j < l → h i j ≡ 0) → Heaviest k l h 0
+unfolding weight gained
+none-heaviest {k} {l} {h} z = record {
+  y = λ i. 0;
+  z = λ j. 0;
+  m = λ i. l;
+  dual = record {
+    feasible = λ i j hi hj. omega (arith, z i j hi hj);
+    injective = λ i j hi hj lt e. absurd (omega arith);
+    equal = sum-zero k (gained l h (λ i. l)) (λ i hi. rw (le-ltb l l (omega arith))) ∙ (omega (arith, none-sum k, none-sum l));
+  };
+  total = omega (arith, none-sum k, none-sum l);
+}
+
+column-heaviest : {k b d : ℕ} {h : ℕ → ℕ → ℕ} → Greatest k (λ i. h i 0) b d → Heaviest k 1 h d
+unfolding weight gained
+column-heaviest {k} {b} {d} {h} G = ⊎-elim some nothing (less? 0 d)
+  where
+    covers : (i j : ℕ) → i < k → j < 1 → h i j ≤ 0 + d
+    covers i j hi hj = let e : j ≡ 0 = omega arith in rw e (omega (arith, G .most i hi))
+
+    m : ℕ → ℕ
+    m i = cond (eqb i b) 0 1
+
+    mine : (i : ℕ) → m i < 1 → i ≡ b
+    mine i lt = ⊎-elim (λ q. q) (λ q. let x : 1 < 1 = rw (ne-eqb i b q) at lt in absurd (omega arith)) (same? i b)
+
+    row : 0 < d → (i : ℕ) → i < k → gained 1 h m i ≡ cond (eqb i b) d 0
+    row p i hi = ⊎-elim
+        (λ q. rw (eq-eqb i b q) (ap (λ (x : ℕ). h x 0) q ∙ G .found p .1))
+        (λ q. rw (ne-eqb i b q))
+        (same? i b)
+
+    some : 0 < d → Heaviest k 1 h d
+    some p = record {
+      y = λ i. 0;
+      z = λ j. d;
+      m = m;
+      dual = record {
+        feasible = covers;
+        injective = λ i j hi hj lt e. let a = mine i lt in let c = mine j (omega arith) in omega arith;
+        equal = sum-ext k (gained 1 h m) (λ i. cond (eqb i b) d 0) (row p) ∙ sum-single k b d (G .found p .0) ∙ (omega (arith, none-sum k, one-sum (λ j. d)));
+      };
+      total = omega (arith, none-sum k, one-sum (λ j. d));
+    }
+
+    nothing : d ≤ 0 → Heaviest k 1 h d
+    nothing p = let z : d ≡ 0 = omega arith in rw z (none-heaviest (λ i j hi hj. let c = covers i j hi hj in omega arith))
+
+pub column-weights-of : {k b d : ℕ} {g : ℕ → ℕ → ℕ} → Greatest k (λ i. outOf 0 g i 0) b d → WeightsOf k 1 g (set (replicate (degreeLimit + 1) 0) 0 d)
+column-weights-of {k} {b} {d} {g} G = record {
+  size = length-set (replicate (degreeLimit + 1) 0) 0 d;
+  each = λ c h. ⊎-elim
+      (λ e. subst (λ (x : ℕ). Heaviest k 1 (outOf x g) (at (set (replicate (degreeLimit + 1) 0) 0 d) x)) (sym e)
+      (subst (λ (x : ℕ). Heaviest k 1 (outOf 0 g) x) (sym (getD-set-same (replicate (degreeLimit + 1) 0) 0 d 0 (omega arith))) (column-heaviest {b = b} G)))
+      (λ n. subst (λ (x : ℕ). Heaviest k 1 (outOf c g) x) (sym (getD-set-other (replicate (degreeLimit + 1) 0) 0 c d 0 n ∙ many c 0 (omega arith)))
+      (none-heaviest (λ i j hi hj. out-yes c g i j (omega (arith, n)))))
+      (same? c 0);
 }
 
 -- ---- any number of rows

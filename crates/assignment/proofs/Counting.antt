@@ -71,6 +71,33 @@ tried-low {j = j} F T h = (T .size ∙ F .size, let p = T .past j (omega arith) 
 once-row : {c t j : ℕ} (x : ℕ) {n n′ : List ℕ} → Tried c t j n n′ → cell n′ t x ≤ cell n t x + 1
 once-row {c} {t} {j} x T = ⊎-elim (λ h. omega (arith, T .here x h, looks-least c x)) (λ h. omega (arith, T .past x h)) (less? x j)
 
+-- ---- a column
+
+-- the pairs of the first j rows with column 0 were looked at once more, nothing else was
+pub record Passed (j : ℕ) (n n′ : List ℕ) : Type 0 where
+  pub size : length n′ ≡ length n
+  pub here : (i : ℕ) → i < j → cell n′ i 0 ≡ cell n i 0 + 1
+  pub past : (i : ℕ) → j ≤ i → i < degreeLimit → cell n′ i 0 ≡ cell n i 0
+  pub other : (i x : ℕ) → i < degreeLimit → 0 < x → x < degreeLimit → cell n′ i x ≡ cell n i x
+  pub same : searches n′ ≡ searches n
+
+pub passed-none : (n : List ℕ) → Passed 0 n n
+passed-none n = record { size = refl; here = λ i h. absurd (not-suc-le-zero h); past = λ i h l. refl; other = λ i x h p l. refl; same = refl }
+
+pub passed-more : {j : ℕ} {n₀ n n′ : List ℕ} → Passed j n₀ n → length n₀ ≡ pairLimit + 1 → j < degreeLimit → n′ ≡ lookedAt 0 j 0 n → Passed (j + 1) n₀ n′
+passed-more {j} {n₀} {n} {n′} P long hj e =
+    let w : n′ ≡ set n (j * degreeLimit + 0) (cell n j 0 + 1) = e ∙ sym (looked-in 0 j 0 n (λ q. omega (arith, q))) in
+    let low : j * degreeLimit + 0 < length n = omega (arith, P .size) in
+    rw w (record {
+      size = length-set n (j * degreeLimit + 0) (cell n j 0 + 1) ∙ P .size;
+      here = below-more (λ (i : ℕ). cell (set n (j * degreeLimit + 0) (cell n j 0 + 1)) i 0 ≡ cell n₀ i 0 + 1) j
+          (λ i l. getD-set-other n (j * degreeLimit + 0) (i * degreeLimit + 0) (cell n j 0 + 1) 0 (λ p. omega (arith, p)) ∙ P .here i l)
+          (getD-set-same n (j * degreeLimit + 0) (cell n j 0 + 1) 0 low ∙ (omega (arith, P .past j (omega arith) hj)));
+      past = λ i h l. getD-set-other n (j * degreeLimit + 0) (i * degreeLimit + 0) (cell n j 0 + 1) 0 (λ p. omega (arith, p)) ∙ P .past i (omega arith) l;
+      other = λ i x h p l. getD-set-other n (j * degreeLimit + 0) (i * degreeLimit + x) (cell n j 0 + 1) 0 (λ q. omega (arith, q)) ∙ P .other i x h p l;
+      same = getD-set-other n (j * degreeLimit + 0) pairLimit (cell n j 0 + 1) 0 (λ p. omega (arith, p)) ∙ P .same;
+    })
+
 -- ---- the rows that a search goes along
 
 -- root row r is in the tree already; rows of the tree were looked at once more at most, and the others were not
@@ -158,3 +185,18 @@ module _ {n : List ℕ} (C : Countable 1 n) where
     size = T .size ∙ counted-fresh i hi .size;
     low = λ x h. omega (arith, T .other i x q h, counted-fresh i hi .low x h);
   }
+
+  -- it goes along the only column
+  pub search-column : {j : ℕ} {n′ : List ℕ} → Passed j (counted n) n′ → Search n n′
+  search-column {j} P = record {
+    size = P .size ∙ length-set n pairLimit (searches n + 1);
+    counted = P .same ∙ counted-searches;
+    once = λ i x hi hx. ⊎-elim
+        (λ q. rw q (⊎-elim (λ l. omega (arith, P .here i l, counted-cell i 0 hi (omega arith))) (λ l. omega (arith, P .past i l hi, counted-cell i 0 hi (omega arith))) (less? i j)))
+        (λ q. omega (arith, P .other i x hi (omega (arith, q)) hx, counted-cell i x hi hx))
+        (same? x 0);
+  }
+
+  -- the next pair of the column can be counted
+  pub passed-low : {j : ℕ} {n′ : List ℕ} → Passed j (counted n) n′ → j < degreeLimit → (length n′ ≡ pairLimit + 1) × (cell n′ j 0 < far)
+  passed-low {j} P h = (P .size ∙ counted-fresh j h .size, let p = P .past j (omega arith) h in let q = counted-fresh j h .low 0 (omega arith) in omega arith)

@@ -1,5 +1,6 @@
 //! The weight of the heaviest matching for each choice, from one matching: the whole, and from it the matching without each column by one further search at
-//! most. There are at most as many searches as rows and columns, all of them counted.
+//! most. There are at most as many searches as rows and columns, all of them counted. Where there is one row, or one column, every path is a single pair,
+//! and a search needs no tree.
 use crate::Counts;
 use crate::FREE;
 use crate::SEARCHES;
@@ -26,9 +27,9 @@ ghost use Rattle.assignment.specs.Counts.{Search, Searches, Countable};
 // A weight for each choice: at 0 that of all columns, at c that without column c - 1.
 pub type Weights = [u64; Limits::PLACES + 1];
 
-// The greatest gain and the column that has it; of 0 the column says nothing.
+// The greatest gain and the column, or the row, that has it; of 0 the place says nothing.
 struct Best {
-    column: usize,
+    place: usize,
     gain: u64,
 }
 
@@ -41,7 +42,7 @@ fn more_of(new: u64, old: u64) -> u64
 // The path search from the only row: each of its paths is a single pair.
 fn row_search(counts: &mut Counts, g: &Gains, l: usize, c: usize) -> Best
     requires { ⌜ (l ≤ degreeLimit) × (Countable 1 (now counts)) ⌝ }
-    ensures { λ r. ⌜ (Greatest l (outOf c (cell (now (g .entry))) 0) (r .column) (r .gain)) × (Search (now (counts .entry)) (now (counts .exit))) ⌝ }
+    ensures { λ r. ⌜ (Greatest l (outOf c (cell (now (g .entry))) 0) (r .place) (r .gain)) × (Search (now (counts .entry)) (now (counts .exit))) ⌝ }
 {
     counts[SEARCHES] += 1;
     let mut b = Limits::PLACES;
@@ -54,7 +55,7 @@ fn row_search(counts: &mut Counts, g: &Gains, l: usize, c: usize) -> Best
         j += 1;
     }
     Best {
-        column: b,
+        place: b,
         gain: d,
     }
 }
@@ -67,10 +68,41 @@ fn row_weights(t: &mut Weights, counts: &mut Counts, g: &Gains, l: usize)
     let all = row_search(counts, g, l, 0);
     *t = [all.gain; Limits::PLACES + 1];
     if 0 < all.gain {
-        let c = all.column + 1;
+        let c = all.place + 1;
         let rest = row_search(counts, g, l, c);
         t[c] = rest.gain;
     }
+}
+
+// The path search from the only column: the same turned over.
+fn column_search(counts: &mut Counts, g: &Gains, k: usize) -> Best
+    requires { ⌜ (k ≤ degreeLimit) × (Countable 1 (now counts)) ⌝ }
+    ensures { λ r. ⌜ (Greatest k (λ i. outOf 0 (cell (now (g .entry))) i 0) (r .place) (r .gain)) × (Search (now (counts .entry)) (now (counts .exit))) ⌝ }
+{
+    counts[SEARCHES] += 1;
+    let mut b = Limits::PLACES;
+    let mut d = 0;
+    let mut i = 0;
+    while i < k {
+        let x = look_at(counts, g, 0, i, 0);
+        b = place_of(d, x, i, b);
+        d = more_of(x, d);
+        i += 1;
+    }
+    Best {
+        place: b,
+        gain: d,
+    }
+}
+
+// One column: without it nothing is left.
+fn column_weights(t: &mut Weights, counts: &mut Counts, g: &Gains, k: usize)
+    requires { ⌜ (Sized k 1 (cell (now g))) × (Countable (k + 1) (now counts)) ⌝ }
+    ensures { λ _. ⌜ (WeightsOf k 1 (cell (now (g .entry))) (now (t .exit))) × (Searches (k + 1) (now (counts .entry)) (now (counts .exit))) ⌝ }
+{
+    let all = column_search(counts, g, k);
+    *t = [0u64; Limits::PLACES + 1];
+    t[0] = all.gain;
 }
 
 // The weight without the column that choice c leaves out, where row r has it in the answer of all columns: r is made pending and joins again by one search.
@@ -128,6 +160,10 @@ pub fn weights(t: &mut Weights, counts: &mut Counts, g: &Gains, k: usize, l: usi
 {
     if k == 1 {
         row_weights(t, counts, g, l);
+        return;
+    }
+    if l == 1 {
+        column_weights(t, counts, g, k);
         return;
     }
     table_weights(t, counts, g, k, l);

@@ -1,10 +1,14 @@
 //! Compares the assignment with an exhaustive search on many small matrices: rows and columns 0 to 5 in every combination, small
 //! gains with ties, larger ones, many zeros, the whole range up to the limit, and gains at the limit, each under several seeds.
 //! Of each answer it checks the weight, that the pairs handed on make it up, that they are distinct, and that the duals cover
-//! every gain; then the same for each column taken out. It prints how many it compared and how many were right.
+//! every gain; then the weight for each choice, all columns and without each. It prints how many it compared and how many were right,
+//! and how many searches there were for the weights, of how many at most.
 
 use assignment::FREE;
 use assignment::GAIN_LIMIT;
+use assignment::SEARCHES;
+use assignment::weights::Weights;
+use assignment::weights::weights;
 use libc::STDOUT_FILENO;
 use model::Gains;
 use model::Limits;
@@ -23,6 +27,8 @@ struct Count {
     right: u64,
     rests: u64,
     rests_right: u64,
+    searches: u64,
+    most: u64,
 }
 
 // The next of a sequence of numbers that look random.
@@ -176,23 +182,34 @@ fn right(g: &Gains, k: usize, l: usize, y: &WideRow, z: &WideRow, m: &Row) -> bo
     greatest & made & distinct(g, k, l, m) & covered(g, k, l, y, z)
 }
 
-// Whether the answer without column c is right.
-fn rest_right(g: Gains, k: usize, l: usize, c: usize, y: WideRow, z: WideRow, m: Row) -> bool
-    requires { ⌜ (c < l) × (Sized k l (cell g)) × (Answer k l (cell g) y z m) ⌝ }
+// The columns but c.
+fn all_but(c: usize) -> Row
+    requires { ⌜ c < degreeLimit ⌝ }
 {
-    let mut h = g;
-    let mut y2 = y;
-    let mut z2 = z;
-    let mut m2 = m;
-    assignment::without(&mut h, k, l, c, &mut y2, &mut z2, &mut m2);
-    right(&h, k, l, &y2, &z2, &m2)
+    let mut free = [1u8; Limits::PLACES];
+    free[c] = 0;
+    free
+}
+
+// How many of the weights without a column are right.
+fn rests_right(g: &Gains, k: usize, l: usize, t: &Weights) -> u64
+    requires { ⌜ Sized k l (cell (now g)) ⌝ }
+{
+    let mut fine = 0;
+    let mut c = 0;
+    while c < l {
+        let right = t[c + 1] == exhaustive(g, k, l, all_but(c));
+        fine = wrapping_add_u64(fine, one(right));
+        c += 1;
+    }
+    fine
 }
 
 fn one(b: bool) -> u64 {
     if b { 1 } else { 0 }
 }
 
-// One matrix of k rows and l columns, and the same without each column in turn, added to the counts.
+// One matrix of k rows and l columns, and its weights without each column, added to the counts.
 fn compare(kind: u64, seed: u64, k: usize, l: usize, n: Count) -> Count
     requires { ⌜ (k ≤ degreeLimit) × (l ≤ degreeLimit) ⌝ }
 {
@@ -201,20 +218,18 @@ fn compare(kind: u64, seed: u64, k: usize, l: usize, n: Count) -> Count
     let mut z = [6u64; Limits::PLACES];
     let mut m = [7u8; Limits::PLACES];
     assignment::solve(&g, k, l, &mut y, &mut z, &mut m);
-    let whole = one(right(&g, k, l, &y, &z, &m));
-    let mut rests = n.rests;
-    let mut fine = n.rests_right;
-    let mut c = 0;
-    while c < l {
-        rests = wrapping_add_u64(rests, 1);
-        fine = wrapping_add_u64(fine, one(rest_right(g, k, l, c, y, z, m)));
-        c += 1;
-    }
+    let mut t = [8u64; Limits::PLACES + 1];
+    let mut counts = [0u64; Limits::PAIRS + 1];
+    weights(&mut t, &mut counts, &g, k, l);
+    let same = t[0] == assignment::total(k, l, &y, &z);
+    let whole = right(&g, k, l, &y, &z, &m) & same;
     Count {
         matrices: wrapping_add_u64(n.matrices, 1),
-        right: wrapping_add_u64(n.right, whole),
-        rests,
-        rests_right: fine,
+        right: wrapping_add_u64(n.right, one(whole)),
+        rests: wrapping_add_u64(n.rests, l as u64),
+        rests_right: wrapping_add_u64(n.rests_right, rests_right(&g, k, l, &t)),
+        searches: wrapping_add_u64(n.searches, counts[SEARCHES]),
+        most: wrapping_add_u64(n.most, (k + l) as u64),
     }
 }
 
@@ -225,6 +240,8 @@ fn run(kind: u64, seed: u64) -> Count {
         right: 0,
         rests: 0,
         rests_right: 0,
+        searches: 0,
+        most: 0,
     };
     let mut s = seed;
     let mut i: usize = 0;
@@ -259,7 +276,11 @@ fn report(kind: u64, seed: u64) {
     io::print_decimal(STDOUT_FILENO, n.rests);
     io::write_all(STDOUT_FILENO, b" without a column, ");
     io::print_decimal(STDOUT_FILENO, n.rests_right);
-    io::write_all(STDOUT_FILENO, b" right\n");
+    io::write_all(STDOUT_FILENO, b" right; ");
+    io::print_decimal(STDOUT_FILENO, n.searches);
+    io::write_all(STDOUT_FILENO, b" searches of at most ");
+    io::print_decimal(STDOUT_FILENO, n.most);
+    io::write_all(STDOUT_FILENO, b"\n");
 }
 
 fn main() {
