@@ -7,9 +7,10 @@ use Prim.Native.Nat.{ℕ, _+_, _*_, _-_, _≤_, _<_}
 use native.Mathlib.Omega.{arith}
 use native.Mathlib.Nat.{mul-le-mul}
 use lib.ListN.{getD, length}
-use lib.Dec.{T}
+use lib.Dec.{T, ltb}
+use borrow.Author.Tests.{lt-ltb, le-ltb}
 use lib.IntN.{ℤ, pos, negsuc}
-use Rattle.foundations.specs.Tests.{same?}
+use Rattle.foundations.specs.Tests.{same?, less?}
 use Rattle.foundations.specs.Int.{up, int, canon}
 use Rattle.foundations.specs.Members.{mem, mem-here, mem-below, below-mem}
 use Rattle.model.specs.Weights.{Weight, none, some, weighed, isForbidden, _⊑_}
@@ -57,6 +58,16 @@ pub record Raised (w u v x a b w′ u′ v′ : ℕ) : Type 0 where
   pub old : w ≤ w′
   pub new : x ≤ w′
   pub one : ((w′ ≡ w) × (u′ ≡ u) × (v′ ≡ v)) ⊎ ((w < x) × (w′ ≡ x) × (u′ ≡ a) × (v′ ≡ b))
+
+pub raised-of : {w u v x a b w′ u′ v′ : ℕ} → w′ ≡ cond (ltb w x) x w → u′ ≡ cond (ltb w x) a u → v′ ≡ cond (ltb w x) b v → Raised w u v x a b w′ u′ v′
+raised-of {w} {u} {v} {x} {a} {b} {w′} {u′} {v′} ew eu ev = ⊎-elim
+    (λ h. let k = lt-ltb w x h in
+    let p : w′ ≡ x = ew ∙ rw k in
+    record { old = omega arith; new = omega arith; one = inr (h, p, eu ∙ rw k, ev ∙ rw k) })
+    (λ h. let k = le-ltb w x h in
+    let p : w′ ≡ w = ew ∙ rw k in
+    record { old = omega arith; new = omega arith; one = inl (p, eu ∙ rw k, ev ∙ rw k) })
+    (less? w x)
 
 -- pairs (a, b) are done for a below i, and for a = i and b below j
 abbrev Done : ℕ → ℕ → ℕ → ℕ → Type 0

@@ -7,11 +7,13 @@ use plan::offset;
 use plan::place;
 ghost use Prim.Native.Nat.{_+_, _*_, _<_, _≤_};
 ghost use mathlib.Core.Path.{_≡_};
+ghost use mathlib.Core.Bool.{cond};
+ghost use lib.Dec.{ltb};
 ghost use Rattle.model.specs.Limits.{vertexLimit, widthLimit};
 ghost use Rattle.model.specs.Tree.{count};
 ghost use Rattle.model.specs.Order.{width, offset, subproblems};
 ghost use Rattle.plan.specs.Plan.{offsetIn};
-ghost use Rattle.one_call.specs.Top.{TopOf, Raised, RowValues, AllAt};
+ghost use Rattle.one_call.specs.Top.{TopOf, RowValues, AllAt};
 
 // A number that is not negative and the pair that has it; of 0 the pair says nothing.
 pub struct Top {
@@ -20,14 +22,17 @@ pub struct Top {
     pub v: u8,
 }
 
-fn raised(t: Top, x: u32, u: u8, v: u8) -> Top
-    ensures { λ r. ⌜ Raised (t .weight) (t .u) (t .v) x u v (r .weight) (r .u) (r .v) ⌝ }
+// The greater of two weights, and the vertex that belongs to it. (One by one: a struct that is chosen whole costs more.)
+fn greater(old: u32, new: u32) -> u32
+    ensures { λ r. ⌜ r ≡ cond (ltb old new) new old ⌝ }
 {
-    if t.weight < x {
-        Top { weight: x, u, v }
-    } else {
-        t
-    }
+    if old < new { new } else { old }
+}
+
+fn whose(old: u32, new: u32, u: u8, v: u8) -> u8
+    ensures { λ r. ⌜ r ≡ cond (ltb old new) v u ⌝ }
+{
+    if old < new { v } else { u }
 }
 
 fn base_of(place: usize, width: usize) -> usize
@@ -52,15 +57,22 @@ fn top_of_row(
     requires { ⌜ TopOf (now recorded) (now found) (now work) u 0 (t .weight) (t .u) (t .v) ⌝ }
     ensures { λ r. ⌜ TopOf (now (recorded .entry)) (now (found .entry)) (now (work .entry)) (u + 1) 0 (r .weight) (r .u) (r .v) ⌝ }
 {
-    let mut top = t;
+    let mut weight = t.weight;
+    let mut top_u = t.u;
+    let mut top_v = t.v;
     let mut v: u8 = 0;
     while (v as usize) < m {
         let x = above_zero(work[base + offset(plan, v)]);
-        let next = raised(top, x, u, v);
-        top = next;
+        top_u = whose(weight, x, top_u, u);
+        top_v = whose(weight, x, top_v, v);
+        weight = greater(weight, x);
         v += 1;
     }
-    top
+    Top {
+        weight,
+        u: top_u,
+        v: top_v,
+    }
 }
 
 // The pair with the largest value over the work numbers as they are.
