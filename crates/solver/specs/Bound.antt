@@ -133,15 +133,34 @@ module _ {table r f : List ℕ} {plan : List (List ℕ)} (N : Ready table r f pl
       ap (λ (x : ℕ). x % width f) s ∙ digits-mod (p / width f + 1) w)
 
   -- the next vertex begins where one's choices end
-  pub begins-next : {u rest from n : ℕ} → RowRun r f u rest from n → (i v : ℕ) → i < n → v < count f → rest + i ≡ offset f v + (length (neighbours f v) + 1) → begins f (from + i) ≡ true
-  unfolding offset
-  begins-next {u} {rest} {from} R i v h hv e =
-      let one : offset f (v + 1) ≡ offset f v + suc (length (neighbours f v)) = rw (add-one v) in
-      let l = R .left i h in
-      let m : (from + i) % width f < width f = mod-lt (from + i) (width-some N) in
-      let all : offset f (count f) ≡ width f = offset-all f (ready-accepted N .found .ends) (ready-accepted N .found .tree) in
-      let low : v + 1 < count f = ⊎-elim (λ q. q) (λ q. let z : v + 1 ≡ count f = omega arith in absurd (omega (arith, ap (offset f) z))) (less? (v + 1) (count f)) in
-      begins-at (from + i) (v + 1) low (omega arith)
+  module _ {u rest from n : ℕ} (R : RowRun r f u rest from n) (i v : ℕ) (h : i < n) (hv : v < count f) (e : rest + i ≡ offset f v + (length (neighbours f v) + 1)) where
+    next-offset : offset f (v + 1) ≡ rest + i
+    unfolding offset
+    next-offset = let one : offset f (v + 1) ≡ offset f v + suc (length (neighbours f v)) = rw (add-one v) in omega arith
+
+    next-low : v + 1 < count f
+    next-low =
+        let l = R .left i h in
+        let m : (from + i) % width f < width f = mod-lt (from + i) (width-some N) in
+        let all : offset f (count f) ≡ width f = offset-all f (ready-accepted N .found .ends) (ready-accepted N .found .tree) in
+        ⊎-elim (λ q. q) (λ q. let z : v + 1 ≡ count f = omega arith in absurd (omega (arith, ap (offset f) z, next-offset))) (less? (v + 1) (count f))
+
+    pub begins-next : begins f (from + i) ≡ true
+    begins-next = begins-at (from + i) (v + 1) next-low (let l = R .left i h in let o = next-offset in omega arith)
+
+    pub next-located : {m : ℕ} → m ≡ count f → Located (offsetIn plan) m (rest + i) (v + 1) × (0 ≡ rest + i - offsetIn plan (v + 1))
+    unfolding offset
+    next-located {m} em =
+        let o : offsetIn plan (v + 1) ≡ offset f (v + 1) = offsets-are N (v + 1) next-low in
+        let w = next-offset in
+        (record {
+          low = omega (arith, next-low);
+          from = λ z. omega arith;
+          upto = λ z.
+              let o2 : offsetIn plan (v + 1 + 1) ≡ offset f (v + 1 + 1) = offsets-are N (v + 1 + 1) (omega arith) in
+              let one : offset f (v + 1 + 1) ≡ offset f (v + 1) + suc (length (neighbours f (v + 1))) = rw (add-one (v + 1)) in
+              omega arith;
+        }, omega arith)
 
   -- ---- no count is too great
 

@@ -92,7 +92,7 @@ fn fill_pair(
     }
 }
 
-// Of the subproblems of u a run.
+// Of the subproblems of u a run: from the pair that it begins within to the one that it ends within.
 fn fill_row(
     counts: &mut Counts,
     g: &mut Gains,
@@ -115,20 +115,20 @@ fn fill_row(
     let first = run.first;
     let from = run.from;
     let count = run.count;
-    let mut v: u8 = 0;
+    let mut v = locate(plan, m, first, 0);
+    let mut q = first - offset(plan, v);
     let mut i = 0;
     while i < count {
-        let t = locate(plan, m, first + i, v);
-        let q = first + i - offset(plan, t);
-        let c = lesser(count - i, degree(plan, t) + 1 - q);
+        let c = lesser(count - i, degree(plan, v) + 1 - q);
         let at = from + i;
         let part = Run {
             first: q,
             from: at,
             count: c,
         };
-        fill_pair(counts, g, table, recorded, found, plan, work, u, t, part);
-        v = t;
+        fill_pair(counts, g, table, recorded, found, plan, work, u, v, part);
+        v += 1;
+        q = 0;
         i += c;
     }
 }
