@@ -1,7 +1,7 @@
 -- The weights of pairs of vertices and of edges, the gains of branches, and what the plan says of a pair of vertices. Assumes nothing.
 use mathlib.Core.Path.{_≡_, refl, sym, ap, _∙_, subst}
 use mathlib.Core.Logic.{⊎-elim, _≢_}
-use mathlib.Core.Bool.{true, false, cond}
+use mathlib.Core.Bool.{Bool, true, false, true≢false}
 use mathlib.Core.List.{List}
 use Prim.Native.Nat.{ℕ, _+_, _*_, _≤_, _<_}
 use native.Mathlib.Omega.{arith}
@@ -9,13 +9,15 @@ use native.Mathlib.Nat.{not-suc-le-zero}
 use lib.ListN.{length, getD, set, length-set}
 use lib.Seq.{getD-set-same, getD-set-other}
 use lib.Dec.{T}
-use borrow.Author.Tests.{eq-eqb, ne-eqb}
-use lib.IntN.{ℤ}
+use borrow.Author.Tests.{eqb-true, eq-eqb, ne-eqb}
+use lib.IntN.{ℤ, pos, negsuc, _+ℤ_}
+use mir.Syntax.{w32}
+use mir.Val.{SFits}
 use Rattle.foundations.specs.Tests.{same?}
-use Rattle.foundations.specs.Int.{up}
+use Rattle.foundations.specs.Int.{up, ints, plus, canon}
 use Rattle.foundations.specs.Members.{mem, mem-there, getD-mem}
 use Rattle.model.specs.Bytes.{int32At}
-use Rattle.model.specs.Limits.{forbidden, vertexLimit, degreeLimit, pairLimit}
+use Rattle.model.specs.Limits.{forbidden, forbiddenRank, vertexLimit, degreeLimit, pairLimit}
 use Rattle.model.specs.Weights.{Weight, none, some, weighed, plusW, isForbidden, weightOk}
 use Rattle.model.specs.Table.{vertexLabels, edgeLabels, edgeWeight, vertexWeight, vertexRow, edgeRow, column}
 use Rattle.model.specs.Tree.{count, vertexLabel, serial}
@@ -141,21 +143,20 @@ pub record GainIs (edge value : ℤ) (r : ℕ) : Type 0 where
   pub is : r ≡ upW (plusW (weighed edge) (weighed value))
   pub small : r ≤ gainMost
 
-pub gain-edge : (edge value : ℤ) → isForbidden edge ≡ true → GainIs edge value 0
-unfolding upW weighed
-gain-edge edge value e = record { is = rw e; small = omega arith }
+-- the forbidden number is so low that its sum with any number of 32 bits is below 0
+forbidden-low : (a b : ℤ) → SFits w32 b → isForbidden a ≡ true → (up (a +ℤ b) ≡ 0) × (up (b +ℤ a) ≡ 0)
+unfolding isForbidden
+forbidden-low (pos n) b f e = absurd (true≢false (sym e))
+forbidden-low (negsuc n) b f e = let q : n ≡ forbiddenRank = eqb-true n forbiddenRank e in (omega (ints, q, canon (negsuc n +ℤ b), plus (negsuc n) b), omega (ints, q, canon (b +ℤ negsuc n), plus b (negsuc n)))
 
-plus-none : (x : Weight) → plusW x none ≡ none
-plus-none none = refl
-plus-none (some a) = refl
-
-pub gain-value : (edge value : ℤ) → isForbidden value ≡ true → GainIs edge value 0
+pub gain-any : (edge value : ℤ) (r : ℕ) → SFits w32 edge → SFits w32 value → Gain edge value r → GainIs edge value r
 unfolding upW weighed
-gain-value edge value e = record { is = rw e (sym (ap upW (plus-none (cond (isForbidden edge) none (some edge))))); small = omega arith }
-
-pub gain-number : (edge value : ℤ) (r : ℕ) → isForbidden edge ≡ false → isForbidden value ≡ false → Gain edge value r → GainIs edge value r
-unfolding upW weighed
-gain-number edge value r e h g = record { is = rw (e, h) (g .is); small = g .small }
+gain-any edge value r fe fv G = go (isForbidden edge) (isForbidden value) refl refl
+  where
+    go : (x y : Bool) → isForbidden edge ≡ x → isForbidden value ≡ y → GainIs edge value r
+    go true y e h = record { is = rw e (G .is ∙ forbidden-low edge value fv e .0); small = G .small }
+    go false true e h = record { is = rw (e, h) (G .is ∙ forbidden-low value edge fe h .1); small = G .small }
+    go false false e h = record { is = rw (e, h) (G .is); small = G .small }
 
 -- the gain of u's i-th child with v's j-th neighbour, where `given` are the values
 unfoldable pub gainAt : List ℕ → List ℕ → List ℕ → (ℕ → ℕ → ℕ → Weight) → ℕ → ℕ → ℕ → ℕ → ℕ

@@ -58,15 +58,9 @@ pub fn edge_pair(table: &[u8], i: u8, j: u8) -> i32
     Limits::FORBIDDEN
 }
 
-// What an edge weight and a value gain. Nothing is added to the forbidden number.
+// What an edge weight and a value gain. The forbidden number gains nothing: its sum with any number is below 0.
 pub fn gain_of(edge: i32, value: i32) -> u64
     ensures { λ r. ⌜ GainIs edge value r ⌝ }
 {
-    if integers::is_forbidden(edge) {
-        return 0;
-    }
-    if integers::is_forbidden(value) {
-        return 0;
-    }
     integers::gain(edge, value)
 }
