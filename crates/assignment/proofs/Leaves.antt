@@ -128,6 +128,73 @@ owners-no {i} {m} {own} P le = record {
 pub owners-end : {i k : ℕ} {m own : List ℕ} → OwnersOf i m own → k ≤ i → i ≤ k → OwnersOf k m own
 owners-end {i} {k} {m} {own} P p q = subst (λ (x : ℕ). OwnersOf x m own) (let e : i ≡ k = omega arith in e) P
 
+-- no row has a column
+pub owners-free : (k : ℕ) → k ≤ degreeLimit → OwnersOf k (replicate degreeLimit degreeLimit) (replicate degreeLimit degreeLimit)
+owners-free k few = record {
+  has = λ c h lt. absurd (omega (arith, free c h));
+  none = λ c h le x lt q. omega (arith, q, free x (omega arith));
+  size = refl;
+}
+  where
+    free : (x : ℕ) → x < degreeLimit → at (replicate degreeLimit degreeLimit) x ≡ degreeLimit
+    free x h = getD-replicate {A = ℕ} degreeLimit x degreeLimit 0 h
+
+-- row r, which had none, gets column b, which had none
+pub owners-put : {k r b v w : ℕ} {m own : List ℕ} → OwnersOf k m own → k ≤ degreeLimit → length m ≡ degreeLimit → r < k → degreeLimit ≤ at m r → b < degreeLimit → degreeLimit ≤ at own b → v ≡ b → w ≡ r → OwnersOf k (set m r v) (set own b w)
+owners-put {k} {r} {b} {v} {w} {m} {own} P few long hr none hb bare ev ew = record {
+  has = λ x hx lt. ⊎-elim
+      (λ q. let o : at (set own b w) x ≡ r = ap (at (set own b w)) q ∙ here ∙ ew in subst (λ (y : ℕ). (y < k) × (at (set m r v) y ≡ x)) (sym o) (hr, mine ∙ ev ∙ sym q))
+      (λ n.
+      let o : at (set own b w) x ≡ at own x = getD-set-other own b x w 0 n in
+      let h = P .has x hx (omega arith) in
+      subst (λ (y : ℕ). (y < k) × (at (set m r v) y ≡ x)) (sym o) (h .0, getD-set-other m r (at own x) v 0 (λ q. omega (arith, ap (at m) q, h .1)) ∙ h .1))
+      (same? x b);
+  none = λ x hx le y hy. ⊎-elim
+      (λ q. absurd (omega (arith, ap (at (set own b w)) q, here)))
+      (λ n.
+      let o : at (set own b w) x ≡ at own x = getD-set-other own b x w 0 n in
+      ⊎-elim
+      (λ q p. n (sym p ∙ ap (at (set m r v)) q ∙ mine ∙ ev))
+      (λ q p. P .none x hx (omega arith) y hy (sym (getD-set-other m r y v 0 q) ∙ p))
+      (same? y r))
+      (same? x b);
+  size = length-set own b w ∙ P .size;
+}
+  where
+    here : at (set own b w) b ≡ w
+    here = getD-set-same own b w 0 (omega (arith, P .size))
+
+    mine : at (set m r v) r ≡ v
+    mine = getD-set-same m r v 0 (omega arith)
+
+-- row r gives its column b up
+pub owners-drop : {k r b : ℕ} {m own : List ℕ} → OwnersOf k m own → k ≤ degreeLimit → length m ≡ degreeLimit → r < k → b < degreeLimit → at m r ≡ b → ((i : ℕ) → i < k → at m i ≡ b → i ≡ r) → OwnersOf k (set m r degreeLimit) (set own b degreeLimit)
+owners-drop {k} {r} {b} {m} {own} P few long hr hb e alone = record {
+  has = λ x hx lt. ⊎-elim
+      (λ q. absurd (omega (arith, ap (at (set own b degreeLimit)) q, here)))
+      (λ n.
+      let o : at (set own b degreeLimit) x ≡ at own x = getD-set-other own b x degreeLimit 0 n in
+      let h = P .has x hx (omega arith) in
+      subst (λ (y : ℕ). (y < k) × (at (set m r degreeLimit) y ≡ x)) (sym o) (h .0, getD-set-other m r (at own x) degreeLimit 0 (λ q. n (sym (h .1) ∙ ap (at m) q ∙ e)) ∙ h .1))
+      (same? x b);
+  none = λ x hx le y hy. ⊎-elim
+      (λ q p. omega (arith, p, ap (at (set m r degreeLimit)) q, mine))
+      (λ q p.
+      let s : at m y ≡ x = sym (getD-set-other m r y degreeLimit 0 q) ∙ p in
+      ⊎-elim
+      (λ z. q (alone y hy (s ∙ z)))
+      (λ z. P .none x hx (omega (arith, getD-set-other own b x degreeLimit 0 z)) y hy s)
+      (same? x b))
+      (same? y r);
+  size = length-set own b degreeLimit ∙ P .size;
+}
+  where
+    here : at (set own b degreeLimit) b ≡ degreeLimit
+    here = getD-set-same own b degreeLimit 0 (omega (arith, P .size))
+
+    mine : at (set m r degreeLimit) r ≡ degreeLimit
+    mine = getD-set-same m r degreeLimit 0 (omega arith)
+
 -- ---- a sum that counts down
 
 -- the first i are left to add

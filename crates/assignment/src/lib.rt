@@ -83,7 +83,7 @@ fn open_of(c: u8, x: u64) -> u64
 }
 
 // The row that has each column, or FREE.
-pub(crate) fn owners(m: &Row, k: usize) -> Row
+fn owners(m: &Row, k: usize) -> Row
     requires { ⌜ k ≤ degreeLimit ⌝ }
     ensures { λ r. ⌜ OwnersOf k (now (m .entry)) r ⌝ }
 {
@@ -318,7 +318,7 @@ fn explore(
 
 // Row r, which is pending, joins the finished rows, whichever they are. Its dual starts at the limit, which covers every gain, so
 // that its gains are looked at once. Nothing is left to do where the columns' duals cover r, or its nearest column is free.
-// The search is counted, and so is each pair that it looks at: no pair twice.
+// `own` has the row of each column, before and after. The search is counted, and so is each pair that it looks at: no pair twice.
 pub(crate) fn search(
     counts: &mut Counts,
     g: &Gains,
@@ -329,13 +329,13 @@ pub(crate) fn search(
     y: &mut WideRow,
     z: &mut WideRow,
     m: &mut Row,
+    own: &mut Row,
 )
-    requires { ⌜ (Sized k l (outOf c (cell (now g)))) × (r < k) × (Lengths (now y) (now z) (now m)) × (Bytes l (now m)) × (Pending k l r (outOf c (cell (now g))) (at (now y)) (at (now z)) (at (now m))) ⌝ }
+    requires { ⌜ (Sized k l (outOf c (cell (now g)))) × (r < k) × (Lengths (now y) (now z) (now m)) × (Bytes l (now m)) × (Pending k l r (outOf c (cell (now g))) (at (now y)) (at (now z)) (at (now m))) × (OwnersOf k (now m) (now own)) ⌝ }
     requires { ⌜ Countable 1 (now counts) ⌝ }
-    ensures { λ _. ⌜ (Ended k l r (outOf c (cell (now (g .entry)))) (now (y .entry)) (now (z .entry)) (now (m .entry)) (now (y .exit)) (now (z .exit)) (now (m .exit))) × (Search (now (counts .entry)) (now (counts .exit))) ⌝ }
+    ensures { λ _. ⌜ (Ended k l r (outOf c (cell (now (g .entry)))) (now (y .entry)) (now (z .entry)) (now (m .entry)) (now (y .exit)) (now (z .exit)) (now (m .exit))) × (OwnersOf k (now (m .exit)) (now (own .exit))) × (Search (now (counts .entry)) (now (counts .exit))) ⌝ }
 {
     counts[SEARCHES] += 1;
-    let own = owners(m, k);
     let mut dist = [0u64; Limits::PLACES];
     let near = look_first(counts, &mut dist, g, z, l, c, r);
     let d = near.distance;
@@ -347,10 +347,12 @@ pub(crate) fn search(
     if FREE <= own[b] {
         y[r] = GAIN_LIMIT - d;
         m[r] = byte(b);
+        own[b] = byte(r);
         return;
     }
     y[r] = GAIN_LIMIT;
-    explore(counts, g, k, l, c, r, y, z, m, &own, &mut dist, near);
+    explore(counts, g, k, l, c, r, y, z, m, own, &mut dist, near);
+    *own = owners(m, k);
 }
 
 // The heaviest matching of k rows and l columns with its duals, one search for each row. What the arrays held does not matter.
@@ -362,16 +364,18 @@ pub(crate) fn solve_counted(
     y: &mut WideRow,
     z: &mut WideRow,
     m: &mut Row,
+    own: &mut Row,
 )
     requires { ⌜ (Sized k l (cell (now g))) × (Lengths (now y) (now z) (now m)) ⌝ }
     requires { ⌜ Countable k (now counts) ⌝ }
-    ensures { λ _. ⌜ (Answer k l (cell (now (g .entry))) (now (y .exit)) (now (z .exit)) (now (m .exit))) × (Searches k (now (counts .entry)) (now (counts .exit))) ⌝ }
+    ensures { λ _. ⌜ (Answer k l (cell (now (g .entry))) (now (y .exit)) (now (z .exit)) (now (m .exit))) × (OwnersOf k (now (m .exit)) (now (own .exit))) × (Searches k (now (counts .entry)) (now (counts .exit))) ⌝ }
 {
     *z = [0u64; Limits::PLACES];
     *m = [FREE; Limits::PLACES];
+    *own = [FREE; Limits::PLACES];
     let mut r = 0;
     while r < k {
-        search(counts, g, k, l, 0, r, y, z, m);
+        search(counts, g, k, l, 0, r, y, z, m, own);
         r += 1;
     }
 }
@@ -382,7 +386,8 @@ pub fn solve(g: &Gains, k: usize, l: usize, y: &mut WideRow, z: &mut WideRow, m:
     ensures { λ _. ⌜ Answer k l (cell (now (g .entry))) (now (y .exit)) (now (z .exit)) (now (m .exit)) ⌝ }
 {
     let mut counts = [0u64; Limits::PAIRS + 1];
-    solve_counted(&mut counts, g, k, l, y, z, m);
+    let mut own = [FREE; Limits::PLACES];
+    solve_counted(&mut counts, g, k, l, y, z, m, &mut own);
 }
 
 // The gains of column c set to 0.

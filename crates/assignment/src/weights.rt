@@ -5,7 +5,6 @@ use crate::Counts;
 use crate::FREE;
 use crate::SEARCHES;
 use crate::look_at;
-use crate::owners;
 use crate::place;
 use crate::place_of;
 use crate::search;
@@ -21,7 +20,7 @@ ghost use lib.ListN.{length};
 ghost use Rattle.model.specs.Limits.{degreeLimit};
 ghost use Rattle.assignment.specs.Matching.{at, cell, outOf};
 ghost use Rattle.assignment.specs.State.{Sized, Answer, Heaviest, WeightsOf};
-ghost use Rattle.assignment.specs.Loops.{whoOf, Greatest};
+ghost use Rattle.assignment.specs.Loops.{whoOf, OwnersOf, Greatest};
 ghost use Rattle.assignment.specs.Counts.{Search, Searches, Countable};
 
 // A weight for each choice: at 0 that of all columns, at c that without column c - 1.
@@ -116,17 +115,20 @@ fn rest_weight(
     y: WideRow,
     z: WideRow,
     m: Row,
+    own: Row,
 ) -> u64
-    requires { ⌜ (Sized k l (cell (now g))) × (Answer k l (cell (now g)) y z m) × (r < k) × (1 ≤ c) × (at m r ≡ c - 1) × (c ≤ l) ⌝ }
+    requires { ⌜ (Sized k l (cell (now g))) × (Answer k l (cell (now g)) y z m) × (r < k) × (1 ≤ c) × (at m r ≡ c - 1) × (c ≤ l) × (OwnersOf k m own) ⌝ }
     requires { ⌜ Countable 1 (now counts) ⌝ }
     ensures { λ w. ⌜ (Heaviest k l (outOf c (cell (now (g .entry)))) w) × (Search (now (counts .entry)) (now (counts .exit))) ⌝ }
 {
     let mut y2 = y;
     let mut z2 = z;
     let mut m2 = m;
+    let mut own2 = own;
     z2[c - 1] = 0;
     m2[r] = FREE;
-    search(counts, g, k, l, c, r, &mut y2, &mut z2, &mut m2);
+    own2[c - 1] = FREE;
+    search(counts, g, k, l, c, r, &mut y2, &mut z2, &mut m2, &mut own2);
     total(k, l, &y2, &z2)
 }
 
@@ -138,16 +140,16 @@ fn table_weights(t: &mut Weights, counts: &mut Counts, g: &Gains, k: usize, l: u
     let mut y = [0u64; Limits::PLACES];
     let mut z = [0u64; Limits::PLACES];
     let mut m = [FREE; Limits::PLACES];
-    solve_counted(counts, g, k, l, &mut y, &mut z, &mut m);
+    let mut own = [FREE; Limits::PLACES];
+    solve_counted(counts, g, k, l, &mut y, &mut z, &mut m, &mut own);
     let all = total(k, l, &y, &z);
-    let own = owners(&m, k);
     *t = [all; Limits::PLACES + 1];
     let mut c = 0;
     while c < l {
         let r = place(own[c]);
         c += 1;
         if r < Limits::PLACES {
-            let w = rest_weight(counts, g, k, l, c, r, y, z, m);
+            let w = rest_weight(counts, g, k, l, c, r, y, z, m, own);
             t[c] = w;
         }
     }
