@@ -5,7 +5,6 @@
 //! has the weight for each choice. The definitions are in `specs/`.
 pub mod weights;
 
-
 use model::Gains;
 use model::Limits;
 use model::Row;

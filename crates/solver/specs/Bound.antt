@@ -22,7 +22,6 @@ use Rattle.plan.specs.Plan.{offsetIn, Ready, Pair}
 use Rattle.plan.specs.Numbers.{Located, ready-accepted, width-some, number-v, number-s, offsets-are, number-few}
 use Rattle.plan.specs.Pairs.{children-few, degree-few}
 use Rattle.assignment.specs.Loops.{far}
-
 use Rattle.solver.specs.FillLaws.{RowRun, PairRun}
 
 -- for the subproblems of u and v
@@ -152,15 +151,17 @@ module _ {table r f : List ℕ} {plan : List (List ℕ)} (N : Ready table r f pl
     unfolding offset
     next-located {m} em =
         let o : offsetIn plan (v + 1) ≡ offset f (v + 1) = offsets-are N (v + 1) next-low in
-        let w = next-offset in
-        (record {
-          low = omega (arith, next-low);
-          from = λ z. omega arith;
-          upto = λ z.
-              let o2 : offsetIn plan (v + 1 + 1) ≡ offset f (v + 1 + 1) = offsets-are N (v + 1 + 1) (omega arith) in
-              let one : offset f (v + 1 + 1) ≡ offset f (v + 1) + suc (length (neighbours f (v + 1))) = rw (add-one (v + 1)) in
-              omega arith;
-        }, omega arith)
+        let w = next-offset in (
+          record {
+            low = omega (arith, next-low);
+            from = λ z. omega arith;
+            upto = λ z.
+                let o2 : offsetIn plan (v + 1 + 1) ≡ offset f (v + 1 + 1) = offsets-are N (v + 1 + 1) (omega arith) in
+                let one : offset f (v + 1 + 1) ≡ offset f (v + 1) + suc (length (neighbours f (v + 1))) = rw (add-one (v + 1)) in
+                omega arith;
+          },
+          omega arith,
+        )
 
   -- ---- no count is too great
 
