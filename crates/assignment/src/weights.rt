@@ -54,10 +54,7 @@ fn row_search(counts: &mut Counts, g: &Gains, l: usize, c: usize) -> Best
         d = more_of(x, d);
         j += 1;
     }
-    Best {
-        place: b,
-        gain: d,
-    }
+    Best { place: b, gain: d }
 }
 
 // One row: without a column that is not the best, its weight is that of all.
@@ -89,10 +86,7 @@ fn column_search(counts: &mut Counts, g: &Gains, k: usize) -> Best
         d = more_of(x, d);
         i += 1;
     }
-    Best {
-        place: b,
-        gain: d,
-    }
+    Best { place: b, gain: d }
 }
 
 // One column: without it nothing is left.

@@ -22,7 +22,6 @@ use Rattle.plan.specs.Plan.{offsetIn, Ready, Pair}
 use Rattle.plan.specs.Numbers.{Located, ready-accepted, width-some, number-v, number-s, offsets-are, number-few}
 use Rattle.plan.specs.Pairs.{children-few, degree-few}
 use Rattle.assignment.specs.Loops.{far}
-
 use Rattle.solver.specs.FillLaws.{RowRun, PairRun}
 
 -- for the subproblems of u and v

@@ -38,7 +38,7 @@ add-v : tie.Need-add-v Inv-loop μ-loop
 add-v c = let p = c .before .before .before .before .before .before .before .before .before .before .pre .0 .few in omega arith
 
 loop-again : tie.Need-loop-again Inv-loop μ-loop
-loop-again c = 
+loop-again c =
     let a = c .before .before .before .before .before .before .before .before .before .before .args in
     let p = c .before .before .before .before .before .before .before .before .before .before .pre .0 in
     let v = c .before .before .before .before .before .before .before .loop .v in
@@ -49,7 +49,7 @@ loop-again c =
     (omega arith, top-more (a .recorded .now) (a .found .now) (a .work .now) (a .u) v _ _ _ (c .before .before .before .above-zero .result) _ _ _ (c .before .before .before .before .before .before .before .loop .inv .1) (p .vertex) (subst (λ (k : ℕ). v < k) (p .counted) h) (x .0 ∙ ap (λ (y : ℤ). up y) q ∙ ap (λ (k : ℕ). up (getD (a .work .now) k (pos 0))) (ap (λ (k : ℕ). a .base + k) (c .before .before .before .before .before .offset .ensures) ∙ row-number p v h)) (x .1) (raised-of (c .greater .ensures) (c .before .before .whose .ensures) (c .before .whose2 .ensures)))
 
 returns : tie.Need-returns Inv-loop μ-loop
-returns c = 
+returns c =
     let a = c .before .before .before .before .args in
     let e : c .before .loop .v ≡ a .m = omega (arith, c .before .loop .inv .0, c .loop-test .left) in
     top-row (a .recorded .now) (a .found .now) (a .work .now) (a .u) (c .before .loop .v) _ _ _ (c .before .loop .inv .1) (e ∙ c .before .before .before .before .pre .0 .counted)
