@@ -379,14 +379,23 @@ pub(crate) fn solve_counted(
     }
 }
 
-// The same where no one asks for the counts.
-pub fn solve(g: &Gains, k: usize, l: usize, y: &mut WideRow, z: &mut WideRow, m: &mut Row)
+// The same where no one asks for the counts: what they hold after means nothing. The array is lent, so that it stands once where
+// this is called at many depths.
+pub fn solve(
+    counts: &mut Counts,
+    g: &Gains,
+    k: usize,
+    l: usize,
+    y: &mut WideRow,
+    z: &mut WideRow,
+    m: &mut Row,
+)
     requires { ⌜ (Sized k l (cell (now g))) × (Lengths (now y) (now z) (now m)) ⌝ }
     ensures { λ _. ⌜ Answer k l (cell (now (g .entry))) (now (y .exit)) (now (z .exit)) (now (m .exit)) ⌝ }
 {
-    let mut counts = [0u64; Limits::PAIRS + 1];
+    *counts = [0u64; Limits::PAIRS + 1];
     let mut own = [FREE; Limits::PLACES];
-    solve_counted(&mut counts, g, k, l, y, z, m, &mut own);
+    solve_counted(counts, g, k, l, y, z, m, &mut own);
 }
 
 // The gains of column c set to 0.

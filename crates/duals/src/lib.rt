@@ -70,6 +70,7 @@ pub fn duals_of(w: i32, g: &Gains, k: usize, l: usize, c: usize) -> Duals
     let mut y = [0u64; Limits::PLACES];
     let mut z = [0u64; Limits::PLACES];
     let mut m = [FREE; Limits::PLACES];
-    assignment::solve(&h, k, l, &mut y, &mut z, &mut m);
+    let mut counts = [0u64; Limits::PAIRS + 1];
+    assignment::solve(&mut counts, &h, k, l, &mut y, &mut z, &mut m);
     both(y, z)
 }

@@ -1,5 +1,8 @@
 //! Reading a mapping out of work numbers: a pair of vertices lists its branch pairs, and a branch pair lists the pair behind it.
+use assignment::Counts;
 use formats::tree::vertex_count;
+use model::Gains;
+use model::Limits;
 use plan::Plan;
 use plan::child;
 use plan::child_count;
@@ -9,7 +12,7 @@ ghost use mathlib.Core.Path.{_≡_};
 ghost use mathlib.Core.Logic.{_≢_};
 ghost use mathlib.Core.List.{_++_};
 ghost use lib.ListN.{length, drop, replicate};
-ghost use Rattle.model.specs.Limits.{noVertex};
+ghost use Rattle.model.specs.Limits.{noVertex, pairLimit};
 ghost use Rattle.model.specs.Tree.{count};
 ghost use Rattle.model.specs.Values.{Subproblem};
 ghost use Rattle.plan.specs.Plan.{Ready, Lent};
@@ -17,7 +20,10 @@ ghost use Rattle.readout.specs.Read.{Read, Room};
 ghost use Rattle.readout.specs.CycleLaws.{ReadOut};
 
 // Writes v as u's partner, and what the branch pairs of (u, v) with s give; no path from u down has more than `depth` vertices.
+// Counts and gains are lent for the work of each choice, whatever stood there: they stand once, and not at every depth.
 fn list_pair(
+    counts: &mut Counts,
+    g: &mut Gains,
     table: &[u8],
     recorded: &[u8],
     found: &[u8],
@@ -33,14 +39,17 @@ fn list_pair(
     requires { ⌜ Lent (now recorded) (now found) (now work) ⌝ }
     requires { ⌜ Subproblem (now recorded) (now found) u v s ⌝ }
     requires { ⌜ Room (now recorded) u depth (now mapping) ⌝ }
-    ensures { λ _. ⌜ Read (now (table .entry)) (now (recorded .entry)) (now (found .entry)) (now (work .entry)) u v s (now (mapping .entry)) (now (mapping .exit)) ⌝ }
+    requires { ⌜ length (now g) ≡ pairLimit ⌝ }
+    ensures { λ _. ⌜ (Read (now (table .entry)) (now (recorded .entry)) (now (found .entry)) (now (work .entry)) u v s (now (mapping .entry)) (now (mapping .exit))) × (length (now (g .exit)) ≡ pairLimit) ⌝ }
 {
     mapping[u as usize] = v;
-    let mates = choice(table, recorded, found, plan, work, u, v, s);
+    let mates = choice(counts, g, table, recorded, found, plan, work, u, v, s);
     let n = child_count(plan, u);
     let mut i = 0;
     while i < n {
         list_branch(
+            counts,
+            g,
             table,
             recorded,
             found,
@@ -58,6 +67,8 @@ fn list_pair(
 
 // The branch pair (c, x) below v: the pair behind it, and nothing where x is 255.
 fn list_branch(
+    counts: &mut Counts,
+    g: &mut Gains,
     table: &[u8],
     recorded: &[u8],
     found: &[u8],
@@ -73,10 +84,24 @@ fn list_branch(
     requires { ⌜ Lent (now recorded) (now found) (now work) ⌝ }
     requires { ⌜ (x ≢ noVertex → Subproblem (now recorded) (now found) c x v) ⌝ }
     requires { ⌜ Room (now recorded) c depth (now mapping) ⌝ }
-    ensures { λ _. ⌜ Read (now (table .entry)) (now (recorded .entry)) (now (found .entry)) (now (work .entry)) c x v (now (mapping .entry)) (now (mapping .exit)) ⌝ }
+    requires { ⌜ length (now g) ≡ pairLimit ⌝ }
+    ensures { λ _. ⌜ (Read (now (table .entry)) (now (recorded .entry)) (now (found .entry)) (now (work .entry)) c x v (now (mapping .entry)) (now (mapping .exit))) × (length (now (g .exit)) ≡ pairLimit) ⌝ }
 {
-    if x != model::Limits::NONE {
-        list_pair(table, recorded, found, plan, work, c, x, v, depth, mapping);
+    if x != Limits::NONE {
+        list_pair(
+            counts,
+            g,
+            table,
+            recorded,
+            found,
+            plan,
+            work,
+            c,
+            x,
+            v,
+            depth,
+            mapping,
+        );
     }
 }
 
@@ -87,7 +112,7 @@ pub fn clear(mapping: &mut [u8], n: usize)
 {
     let mut i = 0;
     while i < n {
-        mapping[i] = model::Limits::NONE;
+        mapping[i] = Limits::NONE;
         i += 1;
     }
 }
@@ -111,5 +136,20 @@ pub fn read_out(
 {
     let n = vertex_count(recorded);
     clear(mapping, n);
-    list_pair(table, recorded, found, plan, work, u, v, v, n, mapping);
+    let mut counts = [0u64; Limits::PAIRS + 1];
+    let mut g = [0u64; Limits::PAIRS];
+    list_pair(
+        &mut counts,
+        &mut g,
+        table,
+        recorded,
+        found,
+        plan,
+        work,
+        u,
+        v,
+        v,
+        n,
+        mapping,
+    );
 }

@@ -1,5 +1,6 @@
 //! One subproblem from the work numbers before it: the gains of its branches, and what their heaviest matching matches. The work
 //! numbers may be any: a gain is below 2^32, and so eight of them are far below the matching's limit.
+use assignment::Counts;
 use assignment::FREE;
 use model::Gains;
 use model::Limits;
@@ -111,8 +112,9 @@ fn name_or(plan: &Plan, v: u8, p: u8) -> u8
     }
 }
 
-// The neighbour of v that each of k rows is matched with, 255 for none. A matched pair without gain is no pair.
-fn mates(g: &Gains, k: usize, l: usize, plan: &Plan, v: u8) -> Row
+// The neighbour of v that each of k rows is matched with, 255 for none. A matched pair without gain is no pair. What the counts
+// held does not matter.
+fn mates(counts: &mut Counts, g: &Gains, k: usize, l: usize, plan: &Plan, v: u8) -> Row
     requires { ⌜ Sized k l (cell (now g)) ⌝ }
     requires { ⌜ v < vertexLimit ⌝ }
     ensures { λ r. ⌜ Mates k l (now (g .entry)) (neighbourIn (now (plan .entry)) v) r ⌝ }
@@ -120,7 +122,7 @@ fn mates(g: &Gains, k: usize, l: usize, plan: &Plan, v: u8) -> Row
     let mut y = [0u64; Limits::PLACES];
     let mut z = [0u64; Limits::PLACES];
     let mut m = [FREE; Limits::PLACES];
-    assignment::solve(g, k, l, &mut y, &mut z, &mut m);
+    assignment::solve(counts, g, k, l, &mut y, &mut z, &mut m);
     let mut r = [Limits::NONE; Limits::PLACES];
     let mut i = 0;
     while i < k {
@@ -131,8 +133,11 @@ fn mates(g: &Gains, k: usize, l: usize, plan: &Plan, v: u8) -> Row
     r
 }
 
-// For each child of u in its place a found vertex that it is paired with below (u, v, s), or 255.
+// For each child of u in its place a found vertex that it is paired with below (u, v, s), or 255. Counts and gains are lent for
+// the work, whatever stood there.
 pub fn choice(
+    counts: &mut Counts,
+    g: &mut Gains,
     table: &[u8],
     recorded: &[u8],
     found: &[u8],
@@ -145,13 +150,13 @@ pub fn choice(
     requires { ⌜ Ready (now table) (now recorded) (now found) (now plan) ⌝ }
     requires { ⌜ Lent (now recorded) (now found) (now work) ⌝ }
     requires { ⌜ Subproblem (now recorded) (now found) u v s ⌝ }
-    ensures { λ r. ⌜ ChoiceAt (now (table .entry)) (now (recorded .entry)) (now (found .entry)) (now (work .entry)) u v s r ⌝ }
+    requires { ⌜ length (now g) ≡ pairLimit ⌝ }
+    ensures { λ r. ⌜ (ChoiceAt (now (table .entry)) (now (recorded .entry)) (now (found .entry)) (now (work .entry)) u v s r) × (length (now (g .exit)) ≡ pairLimit) ⌝ }
 {
     let k = child_count(plan, u);
     let l = degree(plan, v);
     let c = slot(plan, v, s);
-    let mut g = [0u64; Limits::PAIRS];
-    gains(&mut g, table, recorded, found, plan, work, u, v);
-    leave_out(&mut g, k, c);
-    mates(&g, k, l, plan, v)
+    gains(g, table, recorded, found, plan, work, u, v);
+    leave_out(g, k, c);
+    mates(counts, g, k, l, plan, v)
 }

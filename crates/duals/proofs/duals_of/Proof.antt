@@ -30,7 +30,7 @@ leave-out-requires c κs =
 
 solve-requires : tie.Need-solve-requires
 solve-requires c κs =
-    let at-out = c .before .before .before .before in
+    let at-out = c .before .before .before .before .before in
     let s = at-out .before .before .before .before .before in
     (out-sized (at-out .leave-out .ensures) (s .pre .1), record { rows = refl; columns = refl; matching = refl })
 
@@ -40,7 +40,7 @@ both-requires-2 c κs = search needs
 returns-2 : tie.Need-returns-2
 returns-2 c =
     let at-solve = c .before in
-    let at-out = at-solve .before .before .before .before .before in
+    let at-out = at-solve .before .before .before .before .before .before in
     let at-is-forbidden = at-out .before .before .before .before in
     let b : Same (at-is-forbidden .before .args .w) = search needs in
     rw (c .both2 .ensures .0, c .both2 .ensures .1) (duals-matched (sym (rw b at (at-is-forbidden .is-forbidden .ensures)) ∙ at-out .before .before .before .if1 .left) (at-out .leave-out .ensures) (at-solve .solve .ensures))
