@@ -6,7 +6,7 @@ use Rattle.assignment.proofs.solve.Statement.{statement}
 use Rattle.assignment.proofs.solve.Tie as tie
 
 solve-counted-requires : tie.Need-solve-counted-requires
-solve-counted-requires c κs = let p = c .before .before .before .before .before .pre in (p, none-countable _ (omega (arith, p .0 .rows)))
+solve-counted-requires c κs = let p = c .before .before .before .before .before .before .pre in (p, none-countable _ (omega (arith, p .0 .rows)))
 
 returns : tie.Need-returns
 returns c = c .solve-counted .ensures .0
