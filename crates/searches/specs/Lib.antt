@@ -1,0 +1,2 @@
+-- What the calls that count searches leave.
+pub mod Calls
