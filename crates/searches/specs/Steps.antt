@@ -1,12 +1,12 @@
 -- The steps of a tally: one pair more, one row more. Assumes nothing.
-use mathlib.Core.Path.{_≡_, refl, sym, ap, _∙_, subst}
+use mathlib.Core.Path.{_≡_, refl, ap, _∙_, subst}
 use mathlib.Core.List.{List}
-use Prim.Native.Nat.{ℕ, suc, _+_, _-_, _*_, _/_, _%_, _≤_, _<_}
+use Prim.Native.Nat.{ℕ, suc, _+_, _*_, _/_, _%_, _≤_, _<_}
 use native.Mathlib.Omega.{arith}
 use native.Mathlib.Numerals.{add-one}
-use native.Mathlib.Nat.{add-zero, div-add-mod', mul-le-mul}
+use native.Mathlib.Nat.{div-add-mod', mul-le-mul}
 use lib.Arith.{digits-div, digits-mod}
-use lib.ListN.{length, getD, replicate}
+use lib.ListN.{length, replicate}
 use Rattle.foundations.specs.Sums.{sum}
 use Rattle.model.specs.Limits.{degreeLimit, pairLimit}
 use Rattle.model.specs.Tree.{count}
@@ -66,15 +66,17 @@ module _ {table r f : List ℕ} {plan : List (List ℕ)} (N : Ready table r f pl
     pub pair-counts : (counts : List ℕ) → Searches (searchMost r f from (length (neighbours f v) + 1)) (replicate (pairLimit + 1) 0) counts → (searches counts ≤ pairMost r f u v) × PairCounts counts
     pair-counts counts S =
         let Z = none-countable far (omega arith) in
-        let few : searches counts ≤ pairMost r f u v = omega (arith, S .few, Z .limit, most-whole N P) in
-        (few, record {
-          each = λ p h.
-              let d : p / degreeLimit * degreeLimit + p % degreeLimit ≡ p = div-add-mod' p degreeLimit in
-              let a : p / degreeLimit < degreeLimit = omega arith in
-              let b : p % degreeLimit < degreeLimit = omega arith in
-              subst (λ (x : ℕ). at counts x ≤ searches counts) d (omega (arith, S .once (p / degreeLimit) (p % degreeLimit) a b, Z .each (p / degreeLimit) (p % degreeLimit) a b, Z .limit));
-          low = omega (arith, few, children-few N (P .pair), degree-few N (P .pair));
-        })
+        let few : searches counts ≤ pairMost r f u v = omega (arith, S .few, Z .limit, most-whole N P) in (
+          few,
+          record {
+            each = λ p h.
+                let d : p / degreeLimit * degreeLimit + p % degreeLimit ≡ p = div-add-mod' p degreeLimit in
+                let a : p / degreeLimit < degreeLimit = omega arith in
+                let b : p % degreeLimit < degreeLimit = omega arith in
+                subst (λ (x : ℕ). at counts x ≤ searches counts) d (omega (arith, S .once (p / degreeLimit) (p % degreeLimit) a b, Z .each (p / degreeLimit) (p % degreeLimit) a b, Z .limit));
+            low = omega (arith, few, children-few N (P .pair), degree-few N (P .pair));
+          },
+        )
 
     -- ---- one pair more
 

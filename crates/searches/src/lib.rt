@@ -41,7 +41,12 @@ pub extern "C" fn count_searches(
 // Entry point.
 // Fills all work numbers too, the subproblems of one pair of vertices after the other, and adds up what each pair takes.
 #[no_mangle]
-pub extern "C" fn tally_searches(table: &[u8], recorded: &[u8], found: &[u8], work: &mut [i32]) -> Tally
+pub extern "C" fn tally_searches(
+    table: &[u8],
+    recorded: &[u8],
+    found: &[u8],
+    work: &mut [i32],
+) -> Tally
     ensures { λ r. ⌜ TallyCall (now (table .entry)) (now (recorded .entry)) (now (found .entry)) (now (work .entry)) (now (work .exit)) r ⌝ }
 {
     let item = start_item(table, recorded, found, work);

@@ -1,10 +1,9 @@
 -- `count_searches` refuses by the first item that applies, or makes the plan and fills with counts set to 0. Assumes nothing.
-use mathlib.Core.Path.{_≡_, refl, sym, ap, _∙_, subst}
-use Prim.Native.Nat.{ℕ, _+_, _≤_}
+use mathlib.Core.Path.{_≡_, refl, sym, ap, _∙_}
+use Prim.Native.Nat.{ℕ, _≤_}
 use native.Mathlib.Omega.{arith}
 use borrow.Author.Needs.{needs}
-use lib.ListN.{length, replicate}
-use Rattle.model.specs.Limits.{pairLimit}
+use lib.ListN.{length}
 use Rattle.model.specs.Order.{subproblems}
 use Rattle.model.specs.Calls.{inputItem}
 use Rattle.model.specs.Jobs.{startItem}
@@ -12,8 +11,8 @@ use Rattle.model.specs.Values.{fill}
 use Rattle.formats.specs.Inputs.{input-sound}
 use Rattle.subtrees.specs.Filling.{length-fill}
 use Rattle.plan.specs.Plan.{Ready}
-use Rattle.assignment.specs.Counts.{Searches, none-countable}
-use Rattle.solver.specs.Bound.{searchMost, most-few}
+use Rattle.assignment.specs.Counts.{none-countable}
+use Rattle.solver.specs.Bound.{most-few}
 use Rattle.job_items.specs.Items.{start-passed}
 use Rattle.searches.proofs.count_searches.Statement.{statement}
 use Rattle.searches.proofs.count_searches.Tie as tie
@@ -24,12 +23,6 @@ zero c = let z : c .before .start-item .result ≡ 0 = search needs in sym (c .b
 
 passed : (c : tie.Else1) → let a = c .before .before .before .before .before .before .args in (inputItem (a .table .now) (a .recorded .now) (a .found .now) ≡ 0) × (subproblems (a .recorded .now) (a .found .now) ≤ length (a .work .now))
 passed c = let a = c .before .before .before .before .before .before .args in start-passed (a .table .now) (a .recorded .now) (a .found .now) (a .work .now) (zero c)
-
-start-item-requires : tie.Need-start-item-requires
-start-item-requires c κs = search needs
-
-same-length : tie.Need-same-length
-same-length c = search needs
 
 returns : tie.Need-returns
 returns c = record {
@@ -78,8 +71,8 @@ pub count-searches-spec : {M : Type 1} → statement M
 count-searches-spec =
     tie.close
     (tie.spec
-    start-item-requires
-    same-length
+    (λ c κs. search needs)
+    (λ c. search needs)
     returns
     make-requires
     subproblem-count-requires

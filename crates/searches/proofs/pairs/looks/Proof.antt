@@ -21,9 +21,6 @@ loop-holds : tie.Need-loop-holds Inv-loop μ-loop
 unfolding sum
 loop-holds c = (omega arith, refl)
 
-element-copy-out-total : tie.Need-element-copy-out-total Inv-loop μ-loop
-element-copy-out-total c = search needs
-
 add-total : tie.Need-add-total Inv-loop μ-loop
 add-total c =
     let l = c .before .before in
@@ -53,7 +50,7 @@ looks-spec =
     μ-loop
     loop-holds
     (λ c. search needs)
-    element-copy-out-total
+    (λ c. search needs)
     add-total
     (λ c. search needs)
     (λ c. search needs)

@@ -1,12 +1,10 @@
 -- `tally_all` adds the rows up: before row i, the subproblems of i rows are filled. Assumes nothing.
-use mathlib.Core.Path.{_≡_, refl, sym, ap, subst, _∙_}
-use Prim.Native.Nat.{ℕ, _+_, _-_, _*_, _≤_, _<_}
+use mathlib.Core.Path.{_≡_, ap, _∙_}
+use Prim.Native.Nat.{ℕ, _-_, _*_, _≤_}
 use native.Mathlib.Omega.{arith}
 use native.Mathlib.Nat.{zero-add}
 use borrow.Author.Needs.{needs}
 use lib.ListN.{length}
-use lib.IntN.{ℤ}
-use mathlib.Core.List.{List}
 use Rattle.model.specs.Limits.{vertexLimit}
 use Rattle.model.specs.Tree.{count}
 use Rattle.model.specs.Order.{width, subproblems}
@@ -38,9 +36,6 @@ loop-holds c =
     let s = c .before .before .before .before .before .before in
     let e = c .none .ensures in
     (omega arith, omega (arith, c .before .before .vertex-count .ensures, ready-accepted (s .pre .0) .recorded .ends .few), omega arith, fill-none _ _ _ _ _, tally-none _ _ (e .0) (e .1) (e .2) (e .3) (e .4) (e .5))
-
-in-order-requires : tie.Need-in-order-requires Inv-loop μ-loop
-in-order-requires c κs = search needs
 
 -- the row of the i-th vertex in postorder
 row : (c : tie.In-loop Inv-loop μ-loop) → let l = c .before in let a = l .before .before .before .before .before .before .before .args in RowRun (a .recorded .now) (a .found .now) (orderIn (a .plan .now) (l .loop .i)) 0 (l .loop .base) (width (a .found .now))
@@ -97,7 +92,7 @@ tally-all-spec =
     width-of-requires
     (λ c κs. search needs)
     loop-holds
-    in-order-requires
+    (λ c κs. search needs)
     tally-row-requires
     (λ c. search needs)
     add-base

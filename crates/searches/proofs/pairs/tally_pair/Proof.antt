@@ -1,12 +1,10 @@
 -- `tally_pair` fills the pair's subproblems into fresh counts. Assumes nothing.
-use mathlib.Core.Path.{_≡_, refl, ap, _∙_}
-use Prim.Native.Nat.{ℕ, _+_, _≤_}
+use mathlib.Core.Path.{_≡_, ap, _∙_}
 use native.Mathlib.Omega.{arith}
 use borrow.Author.Needs.{needs}
 use lib.ListN.{length}
 use Rattle.model.specs.Graph.{neighbours}
 use Rattle.model.specs.Order.{children}
-use Rattle.model.specs.Values.{fill}
 use Rattle.subtrees.specs.Filling.{length-fill}
 use Rattle.plan.specs.Numbers.{ready-accepted}
 use Rattle.plan.specs.Pairs.{children-few, degree-few}
@@ -43,9 +41,6 @@ fill-counted-requires c κs =
     let h = p .1 .1 .0 .enough in
     let k = known d .1 in
     (p .0, (p .1 .0, (omega arith, none-countable _ (most-few (p .0) _ _ (omega arith)))))
-
-array-read-s : tie.Need-array-read-s
-array-read-s c = search needs
 
 add-joined : tie.Need-add-joined
 add-joined c =
@@ -91,7 +86,7 @@ tally-pair-spec =
     degree-requires
     add-fill-counted
     fill-counted-requires
-    array-read-s
+    (λ c. search needs)
     add-joined
     looks-requires
     joined-requires

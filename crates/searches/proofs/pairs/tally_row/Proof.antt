@@ -1,6 +1,6 @@
 -- `tally_row` adds the found vertices up one by one: before v, u's subproblems up to v's offset are filled. Assumes nothing.
-use mathlib.Core.Path.{_≡_, refl, sym, ap, subst, _∙_}
-use Prim.Native.Nat.{ℕ, suc, _+_, _-_, _≤_, _<_}
+use mathlib.Core.Path.{_≡_, sym, ap, subst, _∙_}
+use Prim.Native.Nat.{ℕ, _+_, _-_, _≤_, _<_}
 use native.Mathlib.Omega.{arith}
 use native.Mathlib.Numerals.{add-one}
 use native.Mathlib.Nat.{add-zero}
@@ -35,12 +35,6 @@ loop-holds c =
     let s = c .before .before .before .before in
     (omega arith, omega (arith, c .vertex-count .ensures, ready-accepted (s .pre .0) .found .ends .few), fill-none _ _ _ _ _, subst (λ (x : ℕ). Tallied (s .args .recorded .now) (s .args .found .now) x (s .args .t)) (sym (add-zero (s .args .base))) (s .pre .1 .1 .1))
 
-cast-loop : tie.Need-cast-loop Inv-loop μ-loop
-cast-loop c = search needs
-
-offset-requires : tie.Need-offset-requires Inv-loop μ-loop
-offset-requires c κs = search needs
-
 -- a vertex of the found tree, and its offset
 at-vertex : (c : tie.After-offset Inv-loop μ-loop) → let l = c .before .before in let a = l .before .before .before .before .before .args in (l .loop .v < count (a .found .now)) × (c .offset .result ≡ offset (a .found .now) (l .loop .v))
 at-vertex c =
@@ -65,12 +59,6 @@ tally-pair-requires c κs =
     let v = at-vertex o in
     let i = l .loop .inv in
     (p .0, (fill-lent _ _ _ _ _ _ _ (p .1 .0) (i .2), (whole-pair (p .0) (p .1 .1 .0) _ _ (v .0) (o .offset .ensures), subst (λ (x : ℕ). Tallied (s .args .recorded .now) (s .args .found .now) (s .args .base + x) (l .loop .all)) (sym (v .1)) (i .3))))
-
-add-v : tie.Need-add-v Inv-loop μ-loop
-add-v c = search needs
-
-loop-less : tie.Need-loop-less Inv-loop μ-loop
-loop-less c = search needs
 
 loop-again : tie.Need-loop-again Inv-loop μ-loop
 unfolding offset
@@ -108,12 +96,12 @@ tally-row-spec =
     μ-loop
     vertex-count-requires
     loop-holds
-    cast-loop
-    offset-requires
+    (λ c. search needs)
+    (λ c κs. search needs)
     add-from
     tally-pair-requires
-    add-v
-    loop-less
+    (λ c. search needs)
+    (λ c. search needs)
     loop-again
     same-length
     returns)
