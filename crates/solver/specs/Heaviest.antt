@@ -80,7 +80,7 @@ module _ {k l c : ℕ} {w : ℕ → ℕ → Weight} {s : ℕ} {cs A : List ℕ} 
 
 -- ---- by path searches
 
-sum-most : (k B : ℕ) (f : ℕ → ℕ) → ((i : ℕ) → i < k → f i ≤ B) → sum k f ≤ k * B
+pub sum-most : (k B : ℕ) (f : ℕ → ℕ) → ((i : ℕ) → i < k → f i ≤ B) → sum k f ≤ k * B
 unfolding sum
 sum-most zero B f h = omega arith
 sum-most (suc k) B f h = omega (arith, sum-most k B f (λ i l. h i (omega arith)), h k (omega arith))
