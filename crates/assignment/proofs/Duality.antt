@@ -2,6 +2,7 @@
 use mathlib.Core.Path.{_≡_, refl, sym, ap, subst, _∙_}
 use mathlib.Core.Logic.{_≢_, _⊎_, inl, inr, ⊎-elim}
 use mathlib.Core.Bool.{true≢false, Bool, true, false, cond, _&&_}
+use mathlib.Core.List.{List}
 use Prim.Native.Nat.{ℕ, zero, suc, _+_, _≤_, _<_, max, zero-le}
 use native.Mathlib.Nat.{not-suc-le-zero}
 use native.Mathlib.Omega.{arith}
@@ -10,8 +11,8 @@ use borrow.Author.Tests.{lt-ltb, le-ltb, eq-eqb, ne-eqb}
 use Rattle.foundations.specs.Tests.{and-false, same?, less?}
 use Rattle.foundations.specs.Sums.{sum, sum-ext, sum-add, sum-zero, sum-point}
 use Rattle.model.specs.Limits.{degreeLimit}
-use Rattle.assignment.specs.Matching.{gainLimit, gained, weight, Injective, minus, bestColumn, best, all, Has, Feasible}
-use Rattle.assignment.specs.State.{State, Solved, Partner, Cleared}
+use Rattle.assignment.specs.Matching.{at, outOf, out-yes, out-no, gainLimit, gained, weight, Injective, minus, bestColumn, best, all, Has, Feasible}
+use Rattle.assignment.specs.State.{State, Solved, Partner, Heaviest, WeightsOf}
 
 -- the duals of the free columns
 abbrev open-z : (ℕ → Bool) → (ℕ → ℕ) → ℕ → ℕ
@@ -322,6 +323,11 @@ attained (suc k) l g free =
 
 -- ---- without a column
 
+-- h is g with column c's gains at 0
+record Cleared (k c : ℕ) (g h : ℕ → ℕ → ℕ) : Type 0 where
+  here : (i : ℕ) → i < k → h i c ≡ 0
+  other : (i j : ℕ) → j < degreeLimit → j ≢ c → h i j ≡ g i j
+
 -- with column c's gains at 0 the greatest weight is that over the other columns
 module _ {k l c : ℕ} {g h : ℕ → ℕ → ℕ} (l-few : l ≤ degreeLimit) (D : Cleared k c g h) where
   -- a matching that leaves c alone weighs the same
@@ -379,5 +385,19 @@ module _ {k l c : ℕ} {g h : ℕ → ℕ → ℕ} (l-few : l ≤ degreeLimit) (
           zero-at i hi true = D .here i hi
           zero-at i hi false = refl
 
-  pub rest-best : best l h k all ≡ best l g k (minus all c)
+  rest-best : best l h k all ≡ best l g k (minus all c)
   rest-best = omega (arith, rest-up, rest-down)
+
+-- ---- what the weights of all choices are: the greatest, by trying all matchings of the columns that are left
+
+heaviest-best : {k l : ℕ} {g : ℕ → ℕ → ℕ} {r : ℕ} → Heaviest k l g r → r ≡ best l g k all
+heaviest-best {k} {l} {g} H =
+    let a = best-le k l g (H .y) (H .z) (record { covers = H .dual .feasible }) all in
+    let b = weight-le k l g (H .m) (H .dual .injective) all (λ i hi lt. refl) in
+    omega (arith, H .total, H .dual .equal, all-z l (H .z))
+
+pub weights-best : {k l : ℕ} (g : ℕ → ℕ → ℕ) {t : List ℕ} → l ≤ degreeLimit → WeightsOf k l g t → (c : ℕ) → c < l → at t (c + 1) ≡ best l g k (minus all c)
+weights-best {k} {l} g few W c h = heaviest-best (W .each (c + 1) (omega arith)) ∙ rest-best few (record {
+  here = λ i hi. out-yes (c + 1) g i c refl;
+  other = λ i j hj n. out-no (c + 1) g i j (λ e. n (omega arith));
+})

@@ -14,8 +14,8 @@ use borrow.Author.Tests.{eq-eqb, ne-eqb, lt-ltb, le-ltb, ltb-true}
 use Rattle.foundations.specs.Tests.{same?, less?, not-says}
 use Rattle.foundations.specs.Sums.{sum-ext}
 use Rattle.model.specs.Limits.{degreeLimit, pairLimit}
-use Rattle.assignment.specs.Matching.{at, cell, outOf, out-yes, out-no, gainLimit, gained, weight}
-use Rattle.assignment.specs.State.{Bytes, State, Sized, Lengths, Pending, Joined, Solved, Answer, Heaviest, Dual, Total, Cleared, Partner, also}
+use Rattle.assignment.specs.Matching.{at, cell, outOf, out-yes, out-no, gainLimit, all, gained, weight}
+use Rattle.assignment.specs.State.{Bytes, State, Sized, Lengths, Pending, Joined, Solved, Answer, Heaviest, Total, Partner, also}
 use Rattle.assignment.specs.Loops.{rowEnd, OwnersOf, First}
 use Rattle.assignment.specs.Tree.{Run, Rooted, Ended}
 use Rattle.assignment.proofs.Duality.{solved}
@@ -173,22 +173,6 @@ state-next r G J = state-more r (J .state (state-pending G))
 pub state-solved : {k l r : ℕ} {g : ℕ → ℕ → ℕ} {y z m : ℕ → ℕ} → Sized k l g → State k l g (before r) y z m → k ≤ r → Solved k l g y z m
 state-solved {r = r} S G le = solved G (λ i hi. lt-ltb i r (omega arith)) (S .gains)
 
--- ---- without a column
-
-pub cleared-none : (c : ℕ) (g : ℕ → ℕ → ℕ) → Cleared 0 c g g
-cleared-none c g = record { here = λ i h. absurd (not-suc-le-zero h); other = λ i j h n. refl }
-
-pub cleared-more : {i c : ℕ} (g h : List ℕ) → Cleared i c (cell g) (cell h) → i < degreeLimit → c < degreeLimit → length h ≡ pairLimit → Cleared (i + 1) c (cell g) (cell (set h (i * degreeLimit + c) 0))
-cleared-more {i} {c} g h D hi hc e = record {
-  here = below-more (λ (x : ℕ). cell (set h (i * degreeLimit + c) 0) x c ≡ 0) i
-      (λ x lt. getD-set-other h (i * degreeLimit + c) (x * degreeLimit + c) 0 0 (λ q. omega arith) ∙ D .here x lt)
-      (getD-set-same h (i * degreeLimit + c) 0 0 (omega arith));
-  other = λ x j hj n. getD-set-other h (i * degreeLimit + c) (x * degreeLimit + j) 0 0 (λ q. n (let w : j ≡ c = omega arith in w)) ∙ D .other x j hj n;
-}
-
-pub cleared-end : {i k c : ℕ} (g h : List ℕ) → Cleared i c (cell g) (cell h) → k ≤ i → Cleared k c (cell g) (cell h)
-cleared-end g h D le = record { here = λ x lt. D .here x (omega arith); other = D .other }
-
 -- ---- a state over gains that are the same
 
 pub state-same : {k l : ℕ} {g h : ℕ → ℕ → ℕ} {f : ℕ → Bool} {y z m : ℕ → ℕ} → ((i j : ℕ) → i < k → j < l → h i j ≡ g i j) → State k l g f y z m → State k l h f y z m
@@ -211,6 +195,22 @@ sized-out c {g} S = record {
   rows = S .rows;
   columns = S .columns;
   gains = λ i j hi hj. ⊎-elim (λ e. omega (arith, out-yes c g i j e)) (λ n. omega (arith, out-no c g i j n, S .gains i j hi hj)) (same? (j + 1) c);
+}
+
+-- an answer over gains that are the same
+pub answer-all : {k l : ℕ} {g : ℕ → ℕ → ℕ} {y z m : List ℕ} → Sized k l g → Answer k l (outOf 0 g) y z m → Answer k l g y z m
+answer-all {k} {l} {g} {y} {z} {m} S A = record {
+  sizes = A .sizes;
+  bytes = A .bytes;
+  solved = solved {finished = all} (record {
+    feasible = λ i j hi f hj. omega (arith, out-none g i j, A .solved .feasible i j hi hj);
+    tight = λ i hi lt. sym (out-none g i (at m i)) ∙ A .solved .tight i hi lt;
+    injective = A .solved .injective;
+    columns = A .solved .columns;
+    rows = λ i hi f. A .solved .rows i hi;
+    pending = λ i hi f. absurd (true≢false f);
+    limit = λ i hi f. A .solved .row-limit i hi;
+  }) (λ i hi. refl) (S .gains);
 }
 
 -- ---- the weight of an answer

@@ -68,11 +68,6 @@ pub record Answer (k l : ℕ) (g : ℕ → ℕ → ℕ) (y z m : List ℕ) : Typ
   pub bytes : Bytes l m
   pub solved : Solved k l g (at y) (at z) (at m)
 
--- h is g with column c's gains at 0
-pub record Cleared (k c : ℕ) (g h : ℕ → ℕ → ℕ) : Type 0 where
-  pub here : (i : ℕ) → i < k → h i c ≡ 0
-  pub other : (i j : ℕ) → j < degreeLimit → j ≢ c → h i j ≡ g i j
-
 -- y and z cover every gain, and their sum is the weight of m, so that no matching weighs more
 pub record Dual (k l : ℕ) (g : ℕ → ℕ → ℕ) (y z m : ℕ → ℕ) : Type 0 where
   pub feasible : (i j : ℕ) → i < k → j < l → g i j ≤ y i + z j

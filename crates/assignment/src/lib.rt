@@ -13,11 +13,12 @@ ghost use Prim.Native.Nat.{ℕ, _+_, _-_, _*_, _<_, _≤_};
 ghost use mathlib.Core.Path.{_≡_};
 ghost use mathlib.Core.Logic.{_≢_};
 ghost use lib.ListN.{length};
+ghost use lib.Dec.{eqb};
 ghost use Rattle.foundations.specs.Sums.{sum};
 ghost use Rattle.foundations.specs.Changed.{Changed};
 ghost use Rattle.model.specs.Limits.{degreeLimit, pairLimit};
 ghost use Rattle.assignment.specs.Matching.{at, cell, outOf, gainLimit};
-ghost use Rattle.assignment.specs.State.{Sized, Lengths, Bytes, Pending, Answer, Cleared, Partner, Total};
+ghost use Rattle.assignment.specs.State.{Sized, Lengths, Bytes, Pending, Answer, Partner, Total};
 ghost use Rattle.assignment.specs.Loops.{far, lessOf, whoOf, openOf, rowEnd, columnEnd, OwnersOf, Looked, First, Room, Settled};
 ghost use Rattle.assignment.specs.Tree.{Grown, Rooted, Ended};
 ghost use Rattle.assignment.specs.Counts.{lookedAt, Tried, Fresh, Once, Search, Searches, Countable};
@@ -98,12 +99,20 @@ fn owners(m: &Row, k: usize) -> Row
     own
 }
 
+// Whether choice c leaves column j out.
+fn is_out(c: usize, j: usize) -> bool
+    requires { ⌜ j < degreeLimit ⌝ }
+    ensures { λ r. ⌜ r ≡ eqb (j + 1) c ⌝ }
+{
+    j + 1 == c
+}
+
 // The gain of row i with column j, which is looked at once more. Where choice c leaves the column out it is 0, and not looked at.
 fn look_at(counts: &mut Counts, g: &Gains, c: usize, i: usize, j: usize) -> u64
     requires { ⌜ (length (now counts) ≡ pairLimit + 1) × (i < degreeLimit) × (j < degreeLimit) × (cell (now counts) i j < far) ⌝ }
     ensures { λ r. ⌜ (r ≡ outOf c (cell (now (g .entry))) i j) × (now (counts .exit) ≡ lookedAt c i j (now (counts .entry))) ⌝ }
 {
-    if j + 1 == c {
+    if is_out(c, j) {
         return 0;
     }
     let p = i * Limits::PLACES + j;
@@ -360,6 +369,7 @@ pub(crate) fn solve_counted(
     g: &Gains,
     k: usize,
     l: usize,
+    c: usize,
     y: &mut WideRow,
     z: &mut WideRow,
     m: &mut Row,
@@ -367,20 +377,39 @@ pub(crate) fn solve_counted(
 )
     requires { ⌜ (Sized k l (cell (now g))) × (Lengths (now y) (now z) (now m)) ⌝ }
     requires { ⌜ Countable k (now counts) ⌝ }
-    ensures { λ _. ⌜ (Answer k l (cell (now (g .entry))) (now (y .exit)) (now (z .exit)) (now (m .exit))) × (OwnersOf k (now (m .exit)) (now (own .exit))) × (Searches k (now (counts .entry)) (now (counts .exit))) ⌝ }
+    ensures { λ _. ⌜ (Answer k l (outOf c (cell (now (g .entry)))) (now (y .exit)) (now (z .exit)) (now (m .exit))) × (OwnersOf k (now (m .exit)) (now (own .exit))) × (Searches k (now (counts .entry)) (now (counts .exit))) ⌝ }
 {
     *z = [0u64; Limits::PLACES];
     *m = [FREE; Limits::PLACES];
     *own = [FREE; Limits::PLACES];
     let mut r = 0;
     while r < k {
-        search(counts, g, k, l, 0, r, y, z, m, own);
+        search(counts, g, k, l, c, r, y, z, m, own);
         r += 1;
     }
 }
 
 // The same where no one asks for the counts: what they hold after means nothing. The array is lent, so that it stands once where
 // this is called at many depths.
+pub fn solve_without(
+    counts: &mut Counts,
+    g: &Gains,
+    k: usize,
+    l: usize,
+    c: usize,
+    y: &mut WideRow,
+    z: &mut WideRow,
+    m: &mut Row,
+)
+    requires { ⌜ (Sized k l (cell (now g))) × (Lengths (now y) (now z) (now m)) ⌝ }
+    ensures { λ _. ⌜ Answer k l (outOf c (cell (now (g .entry)))) (now (y .exit)) (now (z .exit)) (now (m .exit)) ⌝ }
+{
+    *counts = [0u64; Limits::PAIRS + 1];
+    let mut own = [FREE; Limits::PLACES];
+    solve_counted(counts, g, k, l, c, y, z, m, &mut own);
+}
+
+// The same with all columns.
 pub fn solve(
     counts: &mut Counts,
     g: &Gains,
@@ -393,34 +422,31 @@ pub fn solve(
     requires { ⌜ (Sized k l (cell (now g))) × (Lengths (now y) (now z) (now m)) ⌝ }
     ensures { λ _. ⌜ Answer k l (cell (now (g .entry))) (now (y .exit)) (now (z .exit)) (now (m .exit)) ⌝ }
 {
-    *counts = [0u64; Limits::PAIRS + 1];
-    let mut own = [FREE; Limits::PLACES];
-    solve_counted(counts, g, k, l, y, z, m, &mut own);
+    solve_without(counts, g, k, l, 0, y, z, m);
 }
 
-// The gains of column c set to 0.
-pub fn clear(g: &mut Gains, k: usize, c: usize)
-    requires { ⌜ (length (now g) ≡ pairLimit) × (k ≤ degreeLimit) × (c < degreeLimit) ⌝ }
-    ensures { λ _. ⌜ (length (now (g .exit)) ≡ pairLimit) × (Cleared k c (cell (now (g .entry))) (cell (now (g .exit)))) ⌝ }
+// The gain of row i with column j, 0 where choice c leaves the column out.
+fn gain_or_zero(g: &Gains, c: usize, i: usize, j: usize) -> u64
+    requires { ⌜ (i < degreeLimit) × (j < degreeLimit) ⌝ }
+    ensures { λ r. ⌜ r ≡ outOf c (cell (now (g .entry))) i j ⌝ }
 {
-    let mut i = 0;
-    while i < k {
-        g[i * Limits::PLACES + c] = 0;
-        i += 1;
+    if is_out(c, j) {
+        return 0;
     }
+    g[i * Limits::PLACES + j]
 }
 
-// What row i has in the answer: its column, or FREE. A matched pair whose gain is 0 is no pair of the answer.
-pub fn partner(g: &Gains, l: usize, m: &Row, i: usize) -> u8
+// What row i has in the answer for choice c: its column, or FREE. A matched pair whose gain is 0 is no pair of the answer.
+pub fn partner(g: &Gains, l: usize, c: usize, m: &Row, i: usize) -> u8
     requires { ⌜ (l ≤ degreeLimit) × (i < degreeLimit) ⌝ }
-    ensures { λ r. ⌜ Partner l (cell (now (g .entry))) (at (now (m .entry))) i r ⌝ }
+    ensures { λ r. ⌜ Partner l (outOf c (cell (now (g .entry)))) (at (now (m .entry))) i r ⌝ }
 {
     let t = m[i];
-    let c = place(t);
-    if l <= c {
+    let j = place(t);
+    if l <= j {
         return FREE;
     }
-    if g[i * Limits::PLACES + c] == 0 {
+    if gain_or_zero(g, c, i, j) == 0 {
         return FREE;
     }
     t

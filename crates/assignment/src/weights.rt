@@ -135,7 +135,7 @@ fn table_weights(t: &mut Weights, counts: &mut Counts, g: &Gains, k: usize, l: u
     let mut z = [0u64; Limits::PLACES];
     let mut m = [FREE; Limits::PLACES];
     let mut own = [FREE; Limits::PLACES];
-    solve_counted(counts, g, k, l, &mut y, &mut z, &mut m, &mut own);
+    solve_counted(counts, g, k, l, 0, &mut y, &mut z, &mut m, &mut own);
     let all = total(k, l, &y, &z);
     *t = [all; Limits::PLACES + 1];
     let mut c = 0;

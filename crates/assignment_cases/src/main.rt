@@ -116,7 +116,7 @@ fn weigh(g: &Gains, k: usize, l: usize, m: &Row) -> u64
     let mut w = 0;
     let mut i = 0;
     while i < k {
-        let c = assignment::partner(g, l, m, i);
+        let c = assignment::partner(g, l, 0, m, i);
         if c < FREE {
             w = wrapping_add_u64(w, g[i * Limits::PLACES + c as usize]);
         }
@@ -133,7 +133,7 @@ fn distinct(g: &Gains, k: usize, l: usize, m: &Row) -> bool
     let mut used = [0u8; Limits::PLACES];
     let mut i = 0;
     while i < k {
-        let c = assignment::partner(g, l, m, i) as usize;
+        let c = assignment::partner(g, l, 0, m, i) as usize;
         if c < Limits::PLACES {
             let fresh = used[c] == 0;
             let below = c < l;

@@ -19,12 +19,12 @@ use Rattle.model.specs.Values.{best, branch, valueFrom, recalled}
 use Rattle.model.specs.Certificate.{atMost}
 use Rattle.subtrees.specs.WeightLaws.{none≢some}
 use Rattle.integers.specs.Results.{gainMost}
-use Rattle.assignment.specs.Matching.{at, cell}
+use Rattle.assignment.specs.Matching.{at, cell, outOf}
 use Rattle.assignment.specs.State.{Solved, Answer}
 use Rattle.plan.specs.Plan.{childCountIn, degreeIn, Ready, Pair}
 use Rattle.plan.specs.Pairs.{VertexPair, upW, gainAt, Filled, weighed-none, weighed-number, children-is, degree-is, children-few, degree-few}
 use Rattle.solver.specs.Exact.{branchGain, Gains, solved-dual, solved-best}
-use Rattle.solver.specs.Heaviest.{LeftOut, Table, Stands, stands-gains}
+use Rattle.solver.specs.Heaviest.{Table, Stands, stands-gains}
 use Rattle.solver.specs.FillLaws.{choice-stands}
 use Rattle.duals.specs.Left.{DualsAt}
 
@@ -38,10 +38,8 @@ pub record PairGains (table r f : List ℕ) (work : List ℤ) (u v : ℕ) (w : �
 
 -- y and z are the duals of the answer for the gains g without the column that choice c leaves out
 pub record Matched (k l c : ℕ) (g y z : List ℕ) : Type 0 where
-  pub h : List ℕ
   pub m : List ℕ
-  pub left-out : LeftOut k c g h
-  pub answer : Answer k l (cell h) y z m
+  pub answer : Answer k l (outOf c (cell g)) y z m
 
 -- for a pair of weight w
 pub record DualsOf (w : ℤ) (k l c : ℕ) (g y z : List ℕ) : Type 0 where
@@ -54,8 +52,8 @@ both-ways e q = true≢false (sym e ∙ q)
 pub duals-none : (w : ℤ) (k l c : ℕ) (g : List ℕ) → isForbidden w ≡ true → DualsOf w k l c g (replicate degreeLimit 0) (replicate degreeLimit 0)
 duals-none w k l c g e = record { zeros = λ q. (refl, refl); matched = λ q. absurd (both-ways e q) }
 
-pub duals-matched : {w : ℤ} {k l c : ℕ} {g h y z m : List ℕ} → isForbidden w ≡ false → LeftOut k c g h → Answer k l (cell h) y z m → DualsOf w k l c g y z
-duals-matched {h = h} {m = m} e O B = record { zeros = λ q. absurd (both-ways q e); matched = λ q. record { h = h; m = m; left-out = O; answer = B } }
+pub duals-matched : {w : ℤ} {k l c : ℕ} {g y z m : List ℕ} → isForbidden w ≡ false → Answer k l (outOf c (cell g)) y z m → DualsOf w k l c g y z
+duals-matched {m = m} e B = record { zeros = λ q. absurd (both-ways q e); matched = λ q. record { m = m; answer = B } }
 
 zeros-at : (n i : ℕ) → getD (replicate {A = ℕ} n 0) i 0 ≡ 0
 zeros-at zero i = refl
@@ -138,16 +136,10 @@ module _ {table r f : List ℕ} {plan : List (List ℕ)} (N : Ready table r f pl
       stands : Stands k l c weigh s (children r u) (neighbours f v) (cell g)
       stands = choice-stands N Q work g k l c ek el (G .filled h) low
 
-      left-gains : Gains weigh s (children r u) (neighbours f v) (cell (M .h))
-      left-gains = record {
-        is = λ i j hi hj.
-            let a = stands .rows in
-            let b = stands .columns in
-            let d = degree-few N Q in
-            M .left-out .is i j (omega arith) (omega arith) ∙ stands-gains stands .is i j hi hj;
-      }
+      left-gains : Gains weigh s (children r u) (neighbours f v) (outOf c (cell g))
+      left-gains = stands-gains stands
 
-      solved : Solved (length (children r u)) (length (neighbours f v)) (cell (M .h)) (at y) (at z) (at (M .m))
+      solved : Solved (length (children r u)) (length (neighbours f v)) (outOf c (cell g)) (at y) (at z) (at (M .m))
       solved = rw (stands .rows, stands .columns) (M .answer .solved)
 
       -- any other has those of the answer
@@ -158,11 +150,11 @@ module _ {table r f : List ℕ} {plan : List (List ℕ)} (N : Ready table r f pl
           record {
             long = (M .answer .sizes .rows, M .answer .sizes .columns);
             zeros = λ q. absurd (none≢some w (sym q ∙ b));
-            own = solved-own weigh s (children r u) (neighbours f v) (cell (M .h)) (at y) (at z) (at (M .m)) left-gains solved;
-            cover = λ x q. solved-cover weigh s (children r u) (neighbours f v) (cell (M .h)) (at y) (at z) (at (M .m)) left-gains solved;
+            own = solved-own weigh s (children r u) (neighbours f v) (outOf c (cell g)) (at y) (at z) (at (M .m)) left-gains solved;
+            cover = λ x q. solved-cover weigh s (children r u) (neighbours f v) (outOf c (cell g)) (at y) (at z) (at (M .m)) left-gains solved;
             total = λ x q.
                 ap (λ (p : Weight). plusW p (best weigh (children r u) (del s (neighbours f v)))) q
-                ∙ ap (plusW (some x)) (solved-best weigh s (children r u) (neighbours f v) (cell (M .h)) (at y) (at z) (at (M .m)) left-gains (solved-dual solved) (stands .rows-apart) (stands .columns-apart));
+                ∙ ap (plusW (some x)) (solved-best weigh s (children r u) (neighbours f v) (outOf c (cell g)) (at y) (at z) (at (M .m)) left-gains (solved-dual solved) (stands .rows-apart) (stands .columns-apart));
           }
 
     pub duals-at : DualsAt table r f work u v s y z

@@ -6,7 +6,6 @@ use model::Limits;
 use model::WideRow;
 use plan::Plan;
 use solver::subproblem::gains;
-use solver::subproblem::leave_out;
 ghost use mathlib.Core.Path.{_≡_};
 ghost use lib.ListN.{length};
 ghost use Rattle.model.specs.Limits.{pairLimit};
@@ -65,12 +64,10 @@ pub fn duals_of(w: i32, g: &Gains, k: usize, l: usize, c: usize) -> Duals
     if integers::is_forbidden(w) {
         return both([0u64; Limits::PLACES], [0u64; Limits::PLACES]);
     }
-    let mut h = *g;
-    leave_out(&mut h, k, c);
     let mut y = [0u64; Limits::PLACES];
     let mut z = [0u64; Limits::PLACES];
     let mut m = [FREE; Limits::PLACES];
     let mut counts = [0u64; Limits::PAIRS + 1];
-    assignment::solve(&mut counts, &h, k, l, &mut y, &mut z, &mut m);
+    assignment::solve_without(&mut counts, g, k, l, c, &mut y, &mut z, &mut m);
     both(y, z)
 }

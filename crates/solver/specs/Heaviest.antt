@@ -19,26 +19,9 @@ use Rattle.model.specs.Weights.{Weight, some}
 use Rattle.model.specs.Values.{best}
 use Rattle.integers.specs.Results.{gainMost}
 use Rattle.assignment.specs.Matching.{at, cell, outOf, out-yes, out-no, gained, weight}
-use Rattle.assignment.specs.State.{Sized, Heaviest, WeightsOf, Cleared}
+use Rattle.assignment.specs.State.{Sized, Heaviest, WeightsOf}
 use Rattle.plan.specs.Pairs.{upW}
 use Rattle.solver.specs.Exact.{branchGain, Gains, solved-best}
-
--- h has the gains of g without that column
-pub record LeftOut (k c : ℕ) (g h : List ℕ) : Type 0 where
-  pub long : length h ≡ pairLimit
-  pub is : (i j : ℕ) → i < k → j < degreeLimit → cell h i j ≡ outOf c (cell g) i j
-
-pub left-none : (k c : ℕ) (g : List ℕ) → length g ≡ pairLimit → c < 1 → LeftOut k c g g
-left-none k c g n z = record { long = n; is = λ i j hi hj. sym (out-no c (cell g) i j (λ e. omega arith)) }
-
-pub left-cleared : (k c d : ℕ) (g h : List ℕ) → length h ≡ pairLimit → c ≡ d + 1 → Cleared k d (cell g) (cell h) → LeftOut k c g h
-left-cleared k c d g h n e C = record {
-  long = n;
-  is = λ i j hi hj. ⊎-elim
-      (λ q. ap (λ (x : ℕ). cell h i x) q ∙ C .here i hi ∙ sym (ap (λ (x : ℕ). outOf c (cell g) i x) q ∙ out-yes c (cell g) i d (sym e)))
-      (λ q. C .other i j hj q ∙ sym (out-no c (cell g) i j (λ p. q (omega arith))))
-      (same? j d);
-}
 
 -- a table of gains and a choice
 pub record Table (k l c : ℕ) (g : ℕ → ℕ → ℕ) : Type 0 where
@@ -95,9 +78,8 @@ out-small {k} {l} {c} {g} T i j hi hj = ⊎-elim
     (λ n. rw (out-no c g i j n) (T .small i j hi hj))
     (same? (j + 1) c)
 
-module _ {k l c : ℕ} {g h : List ℕ} (O : LeftOut k c g h) (T : Table k l c (cell g)) where
-  pub out-sized : Sized k l (cell h)
-  out-sized = record { rows = T .rows; columns = T .columns; gains = λ i j hi hj. let a = O .is i j hi (let b = T .columns in omega arith) in let s = out-small T i j hi hj in omega arith }
+pub table-sized : {k l c : ℕ} {g : ℕ → ℕ → ℕ} → Table k l c g → Sized k l g
+table-sized T = record { rows = T .rows; columns = T .columns; gains = λ i j hi hj. let a = T .small i j hi hj in omega arith }
 
 -- ---- from the weights of all choices
 

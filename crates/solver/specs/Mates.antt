@@ -23,14 +23,14 @@ use Rattle.model.specs.Values.{best, branch, recalled, Subproblem}
 use Rattle.trees.specs.Neighbours.{mem-adjacent, once-neighbours}
 use Rattle.trees.specs.Rooted.{once-children}
 use Rattle.subtrees.specs.Matching.{Assign, assign-ext}
-use Rattle.assignment.specs.Matching.{at, cell, gained}
+use Rattle.assignment.specs.Matching.{at, cell, outOf, gained}
 use Rattle.assignment.specs.State.{Answer, Partner}
 use Rattle.plan.specs.Plan.{neighbourIn, childCountIn, degreeIn, Ready, Pair}
 use Rattle.plan.specs.Numbers.{SlotAt, ready-accepted}
 use Rattle.solver.specs.Choice.{mateIn, hasMate, ChoiceAt}
 use Rattle.assignment.specs.State.{Dual}
 use Rattle.solver.specs.Exact.{Gains, solved-dual, left-of, rowGain, columnOf, Chosen, chosen-assign, chosen-best}
-use Rattle.solver.specs.Heaviest.{LeftOut, Table, Stands, stands-gains}
+use Rattle.solver.specs.Heaviest.{Table, Stands, stands-gains}
 use Rattle.plan.specs.Pairs.{gainAt, Filled, children-few, degree-few}
 
 pub record Choice (w : ℕ → ℕ → Weight) (s : ℕ) (cs A mates : List ℕ) : Type 0 where
@@ -66,12 +66,12 @@ mates-more l g m names i p x mates h M P e =
     }
 
 -- the rows' mates in a matching that duals show to be heaviest
-pub record Mates (k l : ℕ) (h : List ℕ) (names : ℕ → ℕ) (mates : List ℕ) : Type 0 where
+pub record Mates (k l : ℕ) (h : ℕ → ℕ → ℕ) (names : ℕ → ℕ) (mates : List ℕ) : Type 0 where
   pub y : List ℕ
   pub z : List ℕ
   pub m : List ℕ
-  pub answer : Answer k l (cell h) y z m
-  pub each : MatesTo l (cell h) (at m) names k mates
+  pub answer : Answer k l (h) y z m
+  pub each : MatesTo l (h) (at m) names k mates
 
 -- a mate is a name, and its row has a gain; no mate, and it has none
 module _ (l : ℕ) (g : ℕ → ℕ → ℕ) (m : ℕ → ℕ) (names : ℕ → ℕ) (A : List ℕ) (named : (j : ℕ) → j < l → names j ≡ getD A j 0) (vertex : (j : ℕ) → j < l → getD A j 0 < vertexLimit) where
@@ -95,18 +95,21 @@ module _ (l : ℕ) (g : ℕ → ℕ → ℕ) (m : ℕ → ℕ) (names : ℕ → 
       (λ le. M .partner .none le)
       (less? (M .column) degreeLimit)
 
-module _ {k l c : ℕ} {g h : List ℕ} {names : ℕ → ℕ} {mates : List ℕ} (few : l ≤ degreeLimit) (O : LeftOut k c g h) (A′ : Mates k l h names mates)
+module _ {k l : ℕ} (c : ℕ) (g : List ℕ) {names : ℕ → ℕ} {mates : List ℕ} (A′ : Mates k l (outOf c (cell g)) names mates)
     {w : ℕ → ℕ → Weight} {s : ℕ} {cs A : List ℕ} (S : Stands k l c w s cs A (cell g)) (named : (j : ℕ) → j < l → names j ≡ getD A j 0) (vertex : (j : ℕ) → j < l → getD A j 0 < vertexLimit) where
+  abbrev h : ℕ → ℕ → ℕ
+  h = outOf c (cell g)
+
   abbrev m : List ℕ
   m = A′ .m
 
-  left-gains : Gains w s cs A (cell h)
-  left-gains = record { is = λ i j hi hj. O .is i j (omega (arith, S .rows)) (omega (arith, S .columns)) ∙ stands-gains S .is i j hi hj }
+  left-gains : Gains w s cs A h
+  left-gains = stands-gains S
 
-  dual : Dual (length cs) (length A) (cell h) (at (A′ .y)) (at (A′ .z)) (at m)
+  dual : Dual (length cs) (length A) h (at (A′ .y)) (at (A′ .z)) (at m)
   dual = rw (S .rows, S .columns) (solved-dual (A′ .answer .solved))
 
-  row-of : (c : ℕ) → T (mem c cs) → MateIs l (cell h) (at m) names (place c cs) (mateIn cs mates c)
+  row-of : (c : ℕ) → T (mem c cs) → MateIs l h (at m) names (place c cs) (mateIn cs mates c)
   unfolding mateIn
   row-of c t = A′ .each .get (place c cs) (let h = place-low c cs (mem-occ c cs t) in omega (arith, S .rows))
 
@@ -118,23 +121,23 @@ module _ {k l c : ℕ} {g h : List ℕ} {names : ℕ → ℕ} {mates : List ℕ}
   unfolding hasMate
   no-name c e = ⊎-elim (λ q. q) (λ q. let t : not (eqb (mateIn cs mates c) noVertex) ≡ true = rw (ne-eqb (mateIn cs mates c) noVertex q) in absurd (true≢false (sym t ∙ e))) (same? (mateIn cs mates c) noVertex)
 
-  some-of : (c : ℕ) → T (mem c cs) → T (hasMate cs mates c) → (0 < gained l (cell h) (at m) (place c cs)) × (mateIn cs mates c ≡ getD A (at m (place c cs)) 0)
-  some-of c t o = mate-some l (cell h) (at m) names A named vertex (place c cs) (mateIn cs mates c) (row-of c t) (has-name c o)
+  some-of : (c : ℕ) → T (mem c cs) → T (hasMate cs mates c) → (0 < gained l h (at m) (place c cs)) × (mateIn cs mates c ≡ getD A (at m (place c cs)) 0)
+  some-of c t o = mate-some l h (at m) names A named vertex (place c cs) (mateIn cs mates c) (row-of c t) (has-name c o)
 
-  mates-chosen : Chosen cs A (cell h) (at m) (hasMate cs mates)
+  mates-chosen : Chosen cs A h (at m) (hasMate cs mates)
   unfolding rowGain
   mates-chosen = record {
     yes = λ c t o. rw (S .columns) (some-of c t o .0);
-    no = λ c t e. rw (S .columns) (mate-none l (cell h) (at m) names A named vertex (place c cs) (mateIn cs mates c) (row-of c t) (no-name c e));
+    no = λ c t e. rw (S .columns) (mate-none l h (at m) names A named vertex (place c cs) (mateIn cs mates c) (row-of c t) (no-name c e));
   }
 
   pub mates-choice : Choice w s cs A mates
   unfolding columnOf
   mates-choice = record {
-    gain = rowGain cs A (cell h) (at m);
-    assigned = assign-ext w cs (del s A) (hasMate cs mates) (hasMate cs mates) (mateIn cs mates) (columnOf cs A (at m)) (λ c. pos (rowGain cs A (cell h) (at m) c)) (λ c t. refl) (λ c t o. some-of c t o .1)
-        (chosen-assign w s cs A (cell h) (at (A′ .y)) (at (A′ .z)) (at m) left-gains dual (S .rows-apart) (S .columns-apart) (hasMate cs mates) mates-chosen);
-    heaviest = chosen-best w s cs A (cell h) (at (A′ .y)) (at (A′ .z)) (at m) left-gains dual (S .rows-apart) (S .columns-apart) (hasMate cs mates) mates-chosen;
+    gain = rowGain cs A h (at m);
+    assigned = assign-ext w cs (del s A) (hasMate cs mates) (hasMate cs mates) (mateIn cs mates) (columnOf cs A (at m)) (λ c. pos (rowGain cs A h (at m) c)) (λ c t. refl) (λ c t o. some-of c t o .1)
+        (chosen-assign w s cs A h (at (A′ .y)) (at (A′ .z)) (at m) left-gains dual (S .rows-apart) (S .columns-apart) (hasMate cs mates) mates-chosen);
+    heaviest = chosen-best w s cs A h (at (A′ .y)) (at (A′ .z)) (at m) left-gains dual (S .rows-apart) (S .columns-apart) (hasMate cs mates) mates-chosen;
   }
 
 -- over the trees
@@ -187,8 +190,8 @@ module _ {table r f : List ℕ} {plan : List (List ℕ)} (N : Ready table r f pl
         gains = λ x y hx hy. D .get x y (omega arith) (omega arith) .0;
       }
 
-  pub sub-choice : {h : List ℕ} {mates : List ℕ} → LeftOut k c g h → Mates k l h (neighbourIn plan v) mates → ChoiceAt table r f work u v s mates
-  sub-choice {h} {mates} O M = choice-at table r f work u v s mates (mates-choice (sub-table .columns) O M sub-stands named-as (λ j hj.
+  pub sub-choice : {mates : List ℕ} → Mates k l (outOf c (cell g)) (neighbourIn plan v) mates → ChoiceAt table r f work u v s mates
+  sub-choice {mates} M = choice-at table r f work u v s mates (mates-choice c g M sub-stands named-as (λ j hj.
       let few : count f ≤ vertexLimit = ready-accepted N .found .ends .few in
       let b = columns-are in
       let a : getD (neighbours f v) j 0 < count f = mem-adjacent f v (getD (neighbours f v) j 0) (getD-mem (neighbours f v) j (omega arith)) .0 in

@@ -22,13 +22,12 @@ ghost use Prim.Native.Nat.{_<_, _≤_};
 ghost use mathlib.Core.Path.{_≡_};
 ghost use lib.ListN.{length};
 ghost use Rattle.plan.specs.Pairs.{gainAt, RowFilled, Filled};
-ghost use Rattle.solver.specs.Heaviest.{LeftOut};
 ghost use Rattle.plan.specs.Plan.{neighbourIn, Ready, Lent, Pair};
 ghost use Rattle.solver.specs.Choice.{ChoiceAt};
 ghost use Rattle.solver.specs.Mates.{nameOr, Mates};
 ghost use Rattle.assignment.specs.State.{Sized};
 ghost use Rattle.model.specs.Values.{Subproblem, recalled};
-ghost use Rattle.assignment.specs.Matching.{cell};
+ghost use Rattle.assignment.specs.Matching.{cell, outOf};
 ghost use Rattle.model.specs.Graph.{neighbours};
 ghost use Rattle.model.specs.Limits.{vertexLimit, degreeLimit, pairLimit};
 ghost use Rattle.model.specs.Order.{children};
@@ -89,17 +88,6 @@ pub fn gains(
     }
 }
 
-// The column that choice c leaves out set to 0.
-pub fn leave_out(g: &mut Gains, k: usize, c: usize)
-    requires { ⌜ (length (now g) ≡ pairLimit) × (k ≤ degreeLimit) × (c ≤ degreeLimit) ⌝ }
-    ensures { λ _. ⌜ LeftOut k c (now (g .entry)) (now (g .exit)) ⌝ }
-{
-    if c < 1 {
-        return;
-    }
-    assignment::clear(g, k, c - 1);
-}
-
 // The neighbour of v in column p, 255 where p is none.
 fn name_or(plan: &Plan, v: u8, p: u8) -> u8
     requires { ⌜ v < vertexLimit ⌝ }
@@ -112,21 +100,21 @@ fn name_or(plan: &Plan, v: u8, p: u8) -> u8
     }
 }
 
-// The neighbour of v that each of k rows is matched with, 255 for none. A matched pair without gain is no pair. What the counts
-// held does not matter.
-fn mates(counts: &mut Counts, g: &Gains, k: usize, l: usize, plan: &Plan, v: u8) -> Row
+// The neighbour of v that each of k rows is matched with for choice c, 255 for none. A matched pair without gain is no pair. What the
+// counts held does not matter.
+fn mates(counts: &mut Counts, g: &Gains, k: usize, l: usize, c: usize, plan: &Plan, v: u8) -> Row
     requires { ⌜ Sized k l (cell (now g)) ⌝ }
     requires { ⌜ v < vertexLimit ⌝ }
-    ensures { λ r. ⌜ Mates k l (now (g .entry)) (neighbourIn (now (plan .entry)) v) r ⌝ }
+    ensures { λ r. ⌜ Mates k l (outOf c (cell (now (g .entry)))) (neighbourIn (now (plan .entry)) v) r ⌝ }
 {
     let mut y = [0u64; Limits::PLACES];
     let mut z = [0u64; Limits::PLACES];
     let mut m = [FREE; Limits::PLACES];
-    assignment::solve(counts, g, k, l, &mut y, &mut z, &mut m);
+    assignment::solve_without(counts, g, k, l, c, &mut y, &mut z, &mut m);
     let mut r = [Limits::NONE; Limits::PLACES];
     let mut i = 0;
     while i < k {
-        let p = assignment::partner(g, l, &m, i);
+        let p = assignment::partner(g, l, c, &m, i);
         r[i] = name_or(plan, v, p);
         i += 1;
     }
@@ -157,6 +145,5 @@ pub fn choice(
     let l = degree(plan, v);
     let c = slot(plan, v, s);
     gains(g, table, recorded, found, plan, work, u, v);
-    leave_out(g, k, c);
-    mates(counts, g, k, l, plan, v)
+    mates(counts, g, k, l, c, plan, v)
 }

@@ -1,57 +1,31 @@
 -- `assignment::partner` meets its contract. The laws are in `Roots`. Assumes nothing.
-use mathlib.Core.Path.{_≡_}
-use Prim.Native.Nat.{_-_}
+use mathlib.Core.Path.{_≡_, sym, _∙_}
 use native.Mathlib.Omega.{arith}
 use borrow.Author.Needs.{needs}
-use Rattle.assignment.specs.Matching.{at, cell}
-use Rattle.assignment.proofs.Roots.{before, partner-free, partner-zero, partner-pair}
+use Rattle.assignment.specs.Matching.{at, cell, outOf}
+use Rattle.assignment.proofs.Roots.{partner-free, partner-zero, partner-pair}
 use Rattle.assignment.proofs.partner.Statement.{statement}
 use Rattle.assignment.proofs.partner.Tie as tie
 
-element-copy-out-t : tie.Need-element-copy-out-t
-element-copy-out-t c = search needs
-
-place-requires : tie.Need-place-requires
-place-requires c κs = search needs
-
 returns : tie.Need-returns
-returns c =
-    let s = c .before .before .before in
-    partner-free (s .args .l) (s .args .i) (cell (s .args .g .now)) (at (s .args .m .now)) (omega (arith, c .if1 .taken, c .before .place .ensures))
+returns c = partner-free (c .before .before .before .args .l) (c .before .before .before .args .i) (outOf (c .before .before .before .args .c) (cell (c .before .before .before .args .g .now))) (at (c .before .before .before .args .m .now)) (omega (arith, c .if1 .taken, c .before .place .ensures))
 
-mul-if2 : tie.Need-mul-if2
-mul-if2 c = search needs
-
-add-if2 : tie.Need-add-if2
-add-if2 c = search needs
-
-mul-if2-2 : tie.Need-mul-if2-2
-mul-if2-2 c = search needs
-
-element-copy-out-if2 : tie.Need-element-copy-out-if2
-element-copy-out-if2 c = search needs
+gain-or-zero-requires : tie.Need-gain-or-zero-requires
+gain-or-zero-requires c κs = (c .before .before .before .pre .1, omega (arith, c .before .before .before .pre .0, c .if1 .left))
 
 returns-2 : tie.Need-returns-2
-returns-2 c =
-    let s = c .before .before .before .before .before in
-    let e : cell (s .args .g .now) (s .args .i) (c .before .before .before .place .result) ≡ 0 = omega (arith, c .if2 .taken) in
-    partner-zero (s .args .l) (s .args .i) (c .before .before .before .place .result) (cell (s .args .g .now)) (at (s .args .m .now)) (c .before .before .before .place .ensures) e
+returns-2 c = partner-zero (c .before .before .before .before .before .args .l) (c .before .before .before .before .before .args .i) (c .before .before .before .place .result) (outOf (c .before .before .before .before .before .args .c) (cell (c .before .before .before .before .before .args .g .now))) (at (c .before .before .before .before .before .args .m .now)) (c .before .before .before .place .ensures) (sym (c .before .gain-or-zero .ensures) ∙ c .if2 .taken)
 
 returns-3 : tie.Need-returns-3
-returns-3 c =
-    let s = c .before .before .before .before .before in
-    partner-pair (s .args .l) (s .args .i) (c .before .before .before .place .result) (cell (s .args .g .now)) (at (s .args .m .now)) (s .pre .0) (c .before .before .before .place .ensures) (c .before .before .if1 .left) (c .if2 .left)
+returns-3 c = partner-pair (c .before .before .before .before .before .args .l) (c .before .before .before .before .before .args .i) (c .before .before .before .place .result) (outOf (c .before .before .before .before .before .args .c) (cell (c .before .before .before .before .before .args .g .now))) (at (c .before .before .before .before .before .args .m .now)) (c .before .before .before .before .before .pre .0) (c .before .before .before .place .ensures) (c .before .before .if1 .left) (λ q. c .if2 .left (c .before .gain-or-zero .ensures ∙ q))
 
 pub partner-spec : {M : Type 1} → statement M
 partner-spec =
     tie.close
     (tie.spec
-    element-copy-out-t
-    place-requires
+    (λ c. search needs)
+    (λ c κs. search needs)
     returns
-    mul-if2
-    add-if2
-    mul-if2-2
-    element-copy-out-if2
+    gain-or-zero-requires
     returns-2
     returns-3)

@@ -1,19 +1,17 @@
 -- `assignment::solve` meets its contract. Assumes nothing.
-use native.Mathlib.Omega.{arith}
-use borrow.Author.Needs.{needs}
-use Rattle.assignment.specs.Counts.{none-countable}
+use Rattle.assignment.proofs.Roots.{answer-all}
 use Rattle.assignment.proofs.solve.Statement.{statement}
 use Rattle.assignment.proofs.solve.Tie as tie
 
-solve-counted-requires : tie.Need-solve-counted-requires
-solve-counted-requires c κs = let p = c .before .before .before .before .before .before .pre in (p, none-countable _ (omega (arith, p .0 .rows)))
+solve-without-requires : tie.Need-solve-without-requires
+solve-without-requires c κs = c .before .before .before .before .pre
 
 returns : tie.Need-returns
-returns c = c .solve-counted .ensures .0
+returns c = answer-all (c .before .before .before .before .before .pre .0) (c .solve-without .ensures)
 
 pub solve-spec : {M : Type 1} → statement M
 solve-spec =
     tie.close
     (tie.spec
-    solve-counted-requires
+    solve-without-requires
     returns)

@@ -9,27 +9,27 @@ use Rattle.assignment.specs.Counts.{Searches, countable-less, countable-
 use Rattle.assignment.specs.Loops.{OwnersOf}
 use Rattle.assignment.proofs.Leaves.{owners-free}
 use Rattle.assignment.proofs.Turns.{bytes-none}
-use Rattle.assignment.proofs.Roots.{before, state-none, state-pending, state-next, state-same, state-solved, sized-out, out-none}
+use Rattle.assignment.proofs.Roots.{before, state-none, state-pending, state-next, state-solved, sized-out}
 use Rattle.assignment.proofs.solve_counted.Statement.{statement}
 use Rattle.assignment.proofs.solve_counted.Tie as tie
 
 abbrev Inv-loop : tie.InvT-loop
-Inv-loop counts₀ g k l y₀ z₀ m₀ own₀ r₀ counts y z m own r = (r ≤ k) × Lengths y z m × Bytes l m × State k l (outOf 0 (cell g)) (before r) (at y) (at z) (at m) × OwnersOf k m own × Searches r counts₀ counts
+Inv-loop counts₀ g k l c y₀ z₀ m₀ own₀ r₀ counts y z m own r = (r ≤ k) × Lengths y z m × Bytes l m × State k l (outOf c (cell g)) (before r) (at y) (at z) (at m) × OwnersOf k m own × Searches r counts₀ counts
 
 abbrev μ-loop : tie.MeasureT-loop
-μ-loop counts₀ g k l y₀ z₀ m₀ own₀ r₀ counts y z m own r = k - r
+μ-loop counts₀ g k l c y₀ z₀ m₀ own₀ r₀ counts y z m own r = k - r
 
 loop-holds : tie.Need-loop-holds Inv-loop μ-loop
 loop-holds c = let s = c .before .before .before in (search needs, record { rows = s .pre .0 .1 .rows; columns = refl; matching = refl }, bytes-none _, state-none _ (s .args .y .now) (s .pre .0 .0 .rows) (s .pre .0 .0 .columns), owners-free _ (s .pre .0 .0 .rows), searches-none _)
 
 search-requires : tie.Need-search-requires Inv-loop μ-loop
-search-requires c κs = let i = c .before .before .before .before .before .before .loop .inv in ((sized-out 0 (c .before .before .before .before .before .before .before .before .before .before .pre .0 .0), c .before .before .before .before .before .loop-test .taken, i .1, i .2, state-pending (i .3), i .4), countable-after (countable-less (c .before .before .before .before .before .before .before .before .before .before .pre .1) (let t = c .before .before .before .before .before .loop-test .taken in omega arith)) (i .5))
+search-requires c κs = let i = c .before .before .before .before .before .before .loop .inv in ((sized-out _ (c .before .before .before .before .before .before .before .before .before .before .pre .0 .0), c .before .before .before .before .before .loop-test .taken, i .1, i .2, state-pending (i .3), i .4), countable-after (countable-less (c .before .before .before .before .before .before .before .before .before .before .pre .1) (let t = c .before .before .before .before .before .loop-test .taken in omega arith)) (i .5))
 
 loop-again : tie.Need-loop-again Inv-loop μ-loop
 loop-again c = let i = c .before .before .before .before .before .before .before .loop .inv in (search needs, c .search .ensures .0 .sizes, c .search .ensures .0 .bytes, state-next _ (i .3) (c .search .ensures .0 .joined), c .search .ensures .1, searches-both (i .5) (searches-one (c .search .ensures .2)))
 
 returns : tie.Need-returns Inv-loop μ-loop
-returns c = let i = c .before .loop .inv in (record { sizes = i .1; bytes = i .2; solved = state-solved (c .before .before .before .before .before .pre .0 .0) (state-same (λ i j hi hj. sym (out-none _ i j)) (i .3)) (c .loop-test .left) }, i .4, searches-few (i .5) (i .0))
+returns c = let i = c .before .loop .inv in (record { sizes = i .1; bytes = i .2; solved = state-solved (sized-out _ (c .before .before .before .before .before .pre .0 .0)) (i .3) (c .loop-test .left) }, i .4, searches-few (i .5) (i .0))
 
 pub solve-counted-spec : {M : Type 1} → statement M
 solve-counted-spec =

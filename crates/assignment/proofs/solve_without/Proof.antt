@@ -1,0 +1,19 @@
+-- `assignment::solve_without` meets its contract. Assumes nothing.
+use native.Mathlib.Omega.{arith}
+use borrow.Author.Needs.{needs}
+use Rattle.assignment.specs.Counts.{none-countable}
+use Rattle.assignment.proofs.solve_without.Statement.{statement}
+use Rattle.assignment.proofs.solve_without.Tie as tie
+
+solve-counted-requires : tie.Need-solve-counted-requires
+solve-counted-requires c κs = let p = c .before .before .before .before .before .before .pre in (p, none-countable _ (omega (arith, p .0 .rows)))
+
+returns : tie.Need-returns
+returns c = c .solve-counted .ensures .0
+
+pub solve-without-spec : {M : Type 1} → statement M
+solve-without-spec =
+    tie.close
+    (tie.spec
+    solve-counted-requires
+    returns)
