@@ -1,5 +1,5 @@
 //! Writing and checking a certificate as one would write them in Rust for speed, over the plain match.
-use crate::plain::{children, deliver, fill, gains, plan, read_table, read_tree, solve, Plan, Tree, FORBIDDEN, NONE};
+use crate::plain::{children, chosen, deliver, fill, gains, plan, read_table, read_tree, Plan, Tree, FORBIDDEN, NONE};
 
 /// The certificate's length.
 pub fn length(r: &Tree, f: &Tree) -> usize {
@@ -55,7 +55,7 @@ pub fn write(table: &[u8], recorded: &[u8], found: &[u8], work: &mut [i32], cert
             let d = p.f.degree[v];
             let w = p.t.vertex[p.r.label[u as usize] as usize][p.f.label[v] as usize];
             if w != FORBIDDEN {
-                gains(&p, work, &kids[..k], v, d, &mut g);
+                gains(&p, work, &kids[..k], v, &mut g);
             }
             for q in 0..=d {
                 let (l, column) = if q == 0 { (d, 8) } else { (d - 1, q - 1) };
@@ -71,9 +71,9 @@ pub fn write(table: &[u8], recorded: &[u8], found: &[u8], work: &mut [i32], cert
     Ok(length)
 }
 
-/// The duals of the k children, and of the d neighbours but the one in column `out`.
+/// The duals of the k children, and of the d neighbours but the one in column `out`, by the read-out's search, whose duals are 0 or more.
 fn duals(g: &[[i64; 8]; 8], k: usize, d: usize, out: usize) -> ([i64; 8], [i64; 8]) {
-    let mut m = solve(g, k, d, out);
+    let mut m = chosen(g, k, d, out);
     if out < d {
         m.z.copy_within(out + 1..d, out);
     }

@@ -1,7 +1,8 @@
-//! The match in one call, and the job in slices, as one would write them in Rust for speed: each call reads and tests the bytes, solves its
-//! subproblems in the order of paper 01, and reads out the mapping that the proved library reads out. Weights and neighbours stand in fixed
-//! arrays that are built once; the gains of a pair of vertices are built once for all choices of s. Each matching is solved afresh by the
-//! Hungarian method (row by row, duals, an array of distances).
+//! The baseline of the proved calls: the match in one call, and the job in slices, in plain Rust written for speed. Each call reads and tests
+//! the bytes, solves its subproblems in the order of paper 01, and reads out the mapping that the proved library reads out. Weights and
+//! neighbours stand in fixed arrays that are built once; the gains of a pair of vertices are built once for all choices of s. Each matching
+//! is solved afresh by the textbook Hungarian method (row by row, potentials, slack array). Only the read-out searches as the proved library
+//! does, to choose the same of several heaviest matchings.
 
 use pensummer::{VALUE_MOST, WEIGHT_MOST};
 
@@ -196,21 +197,159 @@ pub fn plan(table: &[u8], recorded: &[u8], found: &[u8]) -> Result<Plan, u32> {
 }
 
 /// The gains of u's children with all of v's neighbours. FORBIDDEN is further below 0 than any weight or value is above, and so gives 0.
-#[inline(always)]
-pub fn gains<const D: usize>(p: &Plan, work: &[i32], kids: &[(usize, usize)], v: usize, d: usize, g: &mut [[i64; D]; 8]) {
-    let (edge, back) = (&p.f.edge[v], &p.back[v]);
+#[inline]
+pub fn gains(p: &Plan, work: &[i32], kids: &[(usize, usize)], v: usize, g: &mut [[i64; 8]; 8]) {
+    let (d, edge, back) = (p.f.degree[v], &p.f.edge[v], &p.back[v]);
     for (&(kind, base), row) in kids.iter().zip(g) {
         let (edges, values) = (&p.t.edge[kind], &work[base..base + p.width]);
-        for ((x, &e), &b) in row[..d].iter_mut().zip(edge).zip(back) {
-            *x = (edges[e as usize & 7] as i64 + values[b] as i64).max(0);
+        for j in 0..d {
+            row[j] = (edges[edge[j] as usize & 7] as i64 + values[back[j]] as i64).max(0);
         }
+    }
+}
+
+/// The gains turned over: a row for each of the d neighbours.
+#[inline(never)]
+fn turn(g: &[[i64; 8]; 8], k: usize, d: usize, turned: &mut [[i64; 8]; 8]) {
+    for i in 0..k {
+        for j in 0..d {
+            turned[j][i] = g[i][j];
+        }
+    }
+}
+
+/// The columns of a set, ascending.
+#[inline]
+fn members(mut set: u32) -> impl Iterator<Item = usize> {
+    std::iter::from_fn(move || {
+        let j = set.trailing_zeros() as usize;
+        set &= set.wrapping_sub(1);
+        (j < 8).then_some(j)
+    })
+}
+
+/// The weight of a heaviest matching by the textbook Hungarian method. `g` has gains of 0 or more; row `no_row` and column `no_column` are
+/// left out, 8 for none, and no more rows than columns are left. Each row in turn gets a column by a path search: a step finds the column of
+/// least slack outside the tree, moves the potentials of the tree by that slack, and takes in the column with its row, if it has one.
+#[inline(never)]
+fn hungarian(g: &[[i64; 8]; 8], rows: usize, columns: usize, no_row: usize, no_column: usize) -> i64 {
+    let all = ((1 << columns) - 1) & !(1 << no_column);
+    // potentials, whose sums cover the gains; each column's row, and the column before it on the path, 8 for none
+    let (mut u, mut v, mut row_of, mut way) = ([0; 8], [0; 8], [8; 8], [8; 8]);
+    let mut weight = 0;
+    for r in 0..rows {
+        if r == no_row {
+            continue;
+        }
+        let (mut slack, mut outside, mut tree) = ([FAR; 8], all, 0);
+        let (mut i, mut last) = (r, 8);
+        let mut end = loop {
+            let (mut delta, mut next) = (FAR, 8);
+            for j in members(outside) {
+                let reduced = u[i] + v[j] - g[i][j];
+                if reduced < slack[j] {
+                    (slack[j], way[j]) = (reduced, last);
+                }
+                if slack[j] < delta {
+                    (delta, next) = (slack[j], j);
+                }
+            }
+            weight -= delta;
+            u[r] -= delta;
+            for j in members(tree) {
+                u[row_of[j]] -= delta;
+                v[j] += delta;
+            }
+            if row_of[next] == 8 {
+                break next;
+            }
+            for x in &mut slack[..columns] {
+                *x -= delta;
+            }
+            outside &= !(1 << next);
+            tree |= 1 << next;
+            (i, last) = (row_of[next], next);
+        };
+        while end != 8 {
+            row_of[end] = if way[end] == 8 { r } else { row_of[way[end]] };
+            end = way[end];
+        }
+    }
+    weight
+}
+
+/// The weight of a heaviest matching of k children with the d neighbours but the one in column `out`; `turned` is read where d <= k. One row
+/// or one column needs no matching.
+#[inline]
+fn matching(g: &[[i64; 8]; 8], turned: &[[i64; 8]; 8], k: usize, d: usize, out: usize) -> i64 {
+    if k == 1 || d - (out < d) as usize <= 1 {
+        let mut best = 0;
+        for row in &g[..k] {
+            for (j, &x) in row[..d].iter().enumerate() {
+                best = best.max(if j == out { 0 } else { x });
+            }
+        }
+        return best;
+    }
+    let (g, rows, columns, no_row, no_column) = if d <= k { (turned, d, k, out, 8) } else { (g, k, d, 8, out) };
+    hungarian(g, rows, columns, no_row, no_column)
+}
+
+/// The children of u: edge label, where their values begin, and the vertex.
+#[inline]
+pub fn children(p: &Plan, u: usize) -> ([(usize, usize); 8], [u8; 8], usize) {
+    let (mut kids, mut names, mut k) = ([(0, 0); 8], [0; 8], 0);
+    for i in 0..p.r.degree[u] {
+        let c = p.r.near[u][i];
+        if c != p.parent[u] {
+            kids[k] = (p.r.edge[u][i] as usize, p.place[c as usize] * p.width);
+            names[k] = c;
+            k += 1;
+        }
+    }
+    (kids, names, k)
+}
+
+/// The subproblems from, from + 1, .. below `to`, each from the work numbers before it.
+pub fn fill(p: &Plan, work: &mut [i32], from: usize, to: usize) {
+    let (mut g, mut turned) = ([[0; 8]; 8], [[0; 8]; 8]);
+    let mut at = from;
+    while at < to {
+        let (i, rest) = (at / p.width, at % p.width);
+        let u = p.order[i] as usize;
+        let (kids, _, k) = children(p, u);
+        let weights = &p.t.vertex[p.r.label[u] as usize];
+        let (before, now) = work.split_at_mut(i * p.width);
+        let end = (to - i * p.width).min(p.width);
+        let mut left = &mut now[rest..end];
+        let mut v = p.starts[..p.f.n].iter().rposition(|&s| s <= rest).unwrap();
+        let mut first = rest - p.starts[v];
+        while !left.is_empty() {
+            let d = p.f.degree[v];
+            let count = (d + 1 - first).min(left.len());
+            let (values, more) = left.split_at_mut(count);
+            let w = weights[p.f.label[v] as usize];
+            if w == FORBIDDEN || k == 0 {
+                values.fill(w);
+            } else {
+                gains(p, before, &kids[..k], v, &mut g);
+                if 1 < d && d <= k {
+                    turn(&g, k, d, &mut turned);
+                }
+                for (i, x) in values.iter_mut().enumerate() {
+                    let all = w as i64 + matching(&g, &turned, k, d, if first + i == 0 { 8 } else { first + i - 1 });
+                    *x = all.min(VALUE_MOST as i64) as i32;
+                }
+            }
+            (left, v, first) = (more, v + 1, 0);
+        }
+        at = i * p.width + end;
     }
 }
 
 /// A heaviest matching of rows with columns.
 pub struct Matching {
-    pub weight: i64,
-    /// Duals of rows and of columns, 0 or more: their sums cover each gain, and all of them add up to the weight.
+    /// Duals of rows and of columns, 0 or more: their sums cover each gain, and all of them add up to the matching's weight.
     pub y: [i64; 8],
     pub z: [i64; 8],
     /// Each row's column and each column's row, 8 for none.
@@ -218,13 +357,12 @@ pub struct Matching {
     row: [u8; 8],
 }
 
-/// A heaviest matching of k rows with d columns but column `out`, whose dual is FAR, by the Hungarian method: one path search for each row,
-/// with the duals of its tree settled at its end. A search takes the nearest column into its tree, the lowest of equals, and the row that
-/// has it. It ends at a column that no row has, or where none is nearer than to leave the tree row of the least dual without a column; so
-/// no pair of gain 0 is matched. Ties are broken as the proved library breaks them: both find the same of several heaviest matchings.
-#[inline(always)]
-pub fn solve<const D: usize>(g: &[[i64; D]; 8], k: usize, d: usize, out: usize) -> Matching {
-    let mut m = Matching { weight: 0, y: [0; 8], z: [0; 8], column: [8; 8], row: [8; 8] };
+/// The heaviest matching of k rows with d columns but column `out`, whose dual is FAR, that the proved library chooses: one path search for
+/// each row, with the duals of its tree settled at its end. A search takes the nearest column into its tree, the lowest of equals, and the
+/// row that has it. It ends at a column that no row has, or where none is nearer than to leave the tree row of the least dual without a
+/// column; so no pair of gain 0 is matched.
+pub fn chosen(g: &[[i64; 8]; 8], k: usize, d: usize, out: usize) -> Matching {
+    let mut m = Matching { y: [0; 8], z: [0; 8], column: [8; 8], row: [8; 8] };
     let d = d.min(8);
     if out < d {
         m.z[out] = FAR;
@@ -266,7 +404,6 @@ pub fn solve<const D: usize>(g: &[[i64; D]; 8], k: usize, d: usize, out: usize) 
                 }
             }
         };
-        m.weight -= low;
         m.y[r] = -low;
         for j in 0..d {
             if tree >> j & 1 == 1 {
@@ -283,87 +420,13 @@ pub fn solve<const D: usize>(g: &[[i64; D]; 8], k: usize, d: usize, out: usize) 
     m
 }
 
-/// The weight of the heaviest matching of k children with the D neighbours but the one in column `out`. One row or one column needs no
-/// matching.
-#[inline(always)]
-fn matching<const D: usize>(g: &[[i64; D]; 8], k: usize, out: usize) -> i64 {
-    if k == 1 || D - (out < D) as usize <= 1 {
-        let mut best = 0;
-        for row in &g[..k] {
-            for j in 0..D {
-                best = best.max(if j == out { 0 } else { row[j] });
-            }
-        }
-        return best;
-    }
-    solve(g, k, D, out).weight
-}
-
-/// The values of a pair of vertices, from choice `first` of s on. D is v's degree: the compiler unrolls the loops over neighbours.
-fn pair<const D: usize>(p: &Plan, work: &[i32], kids: &[(usize, usize)], v: usize, w: i32, first: usize, values: &mut [i32]) {
-    let mut g = [[0; D]; 8];
-    gains(p, work, kids, v, D, &mut g);
-    for (i, x) in values.iter_mut().enumerate() {
-        let all = w as i64 + matching(&g, kids.len(), if first + i == 0 { 8 } else { first + i - 1 });
-        *x = all.min(VALUE_MOST as i64) as i32;
-    }
-}
-
-/// `pair` by v's degree.
-const PAIRS: [Pair; 9] = [pair::<0>, pair::<1>, pair::<2>, pair::<3>, pair::<4>, pair::<5>, pair::<6>, pair::<7>, pair::<8>];
-type Pair = fn(&Plan, &[i32], &[(usize, usize)], usize, i32, usize, &mut [i32]);
-
-/// The children of u: edge label, where their values begin, and the vertex.
-#[inline]
-pub fn children(p: &Plan, u: usize) -> ([(usize, usize); 8], [u8; 8], usize) {
-    let (mut kids, mut names, mut k) = ([(0, 0); 8], [0; 8], 0);
-    for i in 0..p.r.degree[u] {
-        let c = p.r.near[u][i];
-        if c != p.parent[u] {
-            kids[k] = (p.r.edge[u][i] as usize, p.place[c as usize] * p.width);
-            names[k] = c;
-            k += 1;
-        }
-    }
-    (kids, names, k)
-}
-
-/// The subproblems from, from + 1, .. below `to`, each from the work numbers before it.
-pub fn fill(p: &Plan, work: &mut [i32], from: usize, to: usize) {
-    let mut at = from;
-    while at < to {
-        let (i, rest) = (at / p.width, at % p.width);
-        let u = p.order[i] as usize;
-        let (kids, _, k) = children(p, u);
-        let weights = &p.t.vertex[p.r.label[u] as usize];
-        let (before, now) = work.split_at_mut(i * p.width);
-        let end = (to - i * p.width).min(p.width);
-        let mut left = &mut now[rest..end];
-        let mut v = p.starts[..p.f.n].iter().rposition(|&s| s <= rest).unwrap();
-        let mut first = rest - p.starts[v];
-        while !left.is_empty() {
-            let d = p.f.degree[v];
-            let count = (d + 1 - first).min(left.len());
-            let (values, more) = left.split_at_mut(count);
-            let w = weights[p.f.label[v] as usize];
-            if w == FORBIDDEN || k == 0 {
-                values.fill(w);
-            } else {
-                PAIRS[d](p, before, &kids[..k], v, w, first, values);
-            }
-            (left, v, first) = (more, v + 1, 0);
-        }
-        at = i * p.width + end;
-    }
-}
-
 /// Each child's column in the matching of (u, v, s), 8 for none; not inlined, for the stack's sake.
 #[inline(never)]
 fn columns_of(p: &Plan, work: &[i32], kids: &[(usize, usize)], v: usize, s: u8) -> [u8; 8] {
     let (d, mut g) = (p.f.degree[v], [[0; 8]; 8]);
-    gains(p, work, kids, v, d, &mut g);
+    gains(p, work, kids, v, &mut g);
     let out = p.f.near[v][..d].iter().position(|&x| x == s).unwrap_or(8);
-    solve(&g, kids.len(), d, out).column
+    chosen(&g, kids.len(), d, out).column
 }
 
 fn read_out(p: &Plan, work: &[i32], u: usize, v: usize, s: u8, mapping: &mut [u8]) {
