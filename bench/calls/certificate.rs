@@ -1,5 +1,5 @@
 //! Writing and checking a certificate as one would write them in Rust for speed, over the plain match.
-use crate::plain::{children, deliver, duals, fill, gains, plan, read_table, read_tree, Plan, Tree, FORBIDDEN, NONE};
+use crate::plain::{children, chosen, deliver, fill, gains, plan, read_table, read_tree, Plan, Tree, FORBIDDEN, NONE};
 
 /// The certificate's length.
 pub fn length(r: &Tree, f: &Tree) -> usize {
@@ -59,7 +59,7 @@ pub fn write(table: &[u8], recorded: &[u8], found: &[u8], work: &mut [i32], cert
             }
             for q in 0..=d {
                 let (l, column) = if q == 0 { (d, 8) } else { (d - 1, q - 1) };
-                let (y, z) = if w == FORBIDDEN || k == 0 || l == 0 { ([0; 8], [0; 8]) } else { duals(&g, k, d, column) };
+                let (y, z) = if w == FORBIDDEN { ([0; 8], [0; 8]) } else { duals(&g, k, d, column) };
                 out.put(&[0xC1, 3]);
                 out.put(&work[i * p.width + p.starts[v] + q].to_le_bytes());
                 for x in y[..k].iter().chain(&z[..l]) {
@@ -69,6 +69,15 @@ pub fn write(table: &[u8], recorded: &[u8], found: &[u8], work: &mut [i32], cert
         }
     }
     Ok(length)
+}
+
+/// The duals of the k children, and of the d neighbours but the one in column `out`, by the read-out's search, whose duals are 0 or more.
+fn duals(g: &[[i64; 8]; 8], k: usize, d: usize, out: usize) -> ([i64; 8], [i64; 8]) {
+    let mut m = chosen(g, k, d, out);
+    if out < d {
+        m.z.copy_within(out + 1..d, out);
+    }
+    (m.y, m.z)
 }
 
 fn number(z: &[u8], at: usize) -> i32 {

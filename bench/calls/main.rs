@@ -1,7 +1,8 @@
-//! Compares the proved calls with plain ones in Rust (plain.rs, certificate.rs) on the same plants, in one run: the match in one call, a job in
-//! slices of 256 with its start and finish, writing a certificate, checking it, a start alone, and how much to lend. A difference in their answers stops the program. It prints
-//! the mean over a line's plants of the best of several calls, in microseconds, the ratio, how the time grows from the size before, and the
-//! most stack that a call used. Run it by run.sh.
+//! Compares the proved calls with plain ones in Rust (plain.rs, certificate.rs) on the same plants, in one run: the match in one call, a
+//! job in slices of 256 with its start and finish, writing a certificate, checking it, a start alone, and how much to lend. A difference
+//! in answers, work numbers or mappings stops the program; before anything is timed, many more plants are compared. It prints the mean over
+//! a line's plants of the best of several calls, in microseconds, the ratio, how the time grows from the size before, and the most stack
+//! that a call used. Run it by run.sh.
 mod certificate;
 mod plain;
 mod plants;
@@ -9,12 +10,14 @@ mod proved;
 mod stack;
 
 use pensummer::{CERTIFICATE_MOST, VERTICES_MOST, WORK_MOST};
-use plants::{equal_paths, plant, Plant, Random};
+use plants::{equal_paths, plant, tied, Plant, Random, SHAPES};
 use std::hint::black_box;
 use std::time::Instant;
 
 const PLANTS: usize = 6;
 const ROUNDS: usize = 25;
+/// Plants with many ties of each shape and size.
+const TIED: usize = 16;
 const SLICE: usize = 256;
 const CALLS: [&str; 6] = ["match", "slices", "write", "check", "start", "sizes"];
 
@@ -74,16 +77,49 @@ fn by_plain(call: usize, p: &Plant, b: &mut Room) -> i64 {
     }
 }
 
-/// Equal answers, equal work numbers, and either side's certificate accepted by both.
-fn agree(p: &Plant, n: usize) {
-    let all = n * (3 * n - 2);
-    let (mut ours, mut theirs) = (room(1), room(2));
-    for call in 0..CALLS.len() {
-        assert_eq!(by_proved(call, p, &mut ours), by_plain(call, p, &mut theirs), "{}", CALLS[call]);
+/// Equal answers of a call, and equal work numbers and mappings of one that writes them: a certificate has its mapping in its front.
+fn same(call: usize, p: &Plant, ours: &mut Room, theirs: &mut Room) {
+    let (n, m) = (p.recorded[2] as usize, p.found[2] as usize);
+    let (all, front) = (n * (3 * m - 2), 8 + 3 * n);
+    for (b, x) in [(&mut *ours, 1), (&mut *theirs, 2)] {
+        b.work.fill(x);
+        b.mapping.fill(x as u8);
+    }
+    assert_eq!(by_proved(call, p, ours), by_plain(call, p, theirs), "{}", CALLS[call]);
+    if call < 3 {
         assert_eq!(ours.work[..all], theirs.work[..all], "{}: work numbers", CALLS[call]);
     }
+    if call < 2 {
+        assert_eq!(ours.mapping[..n], theirs.mapping[..n], "{}: mappings", CALLS[call]);
+    }
+    if call == 2 {
+        assert_eq!(ours.certificate[..front], theirs.certificate[..front], "{}: mappings", CALLS[call]);
+    }
+}
+
+/// Every call is the same on both sides, and either side's certificate is accepted by both.
+fn agree(p: &Plant) {
+    let (mut ours, mut theirs) = (room(1), room(2));
+    (0..CALLS.len()).for_each(|call| same(call, p, &mut ours, &mut theirs));
     assert_eq!(proved::check(&p.table, &p.recorded, &p.found, &theirs.certificate[..theirs.length]), 0);
     assert_eq!(certificate::check(&p.table, &p.recorded, &p.found, &ours.certificate[..ours.length]), 0);
+}
+
+/// The match and the job are the same on many plants that have many heaviest mappings.
+fn agree_on_ties(random: &mut Random) {
+    let (mut ours, mut theirs) = (room(1), room(2));
+    let mut count = 0;
+    for shape in SHAPES {
+        for n in 1..=VERTICES_MOST {
+            for _ in 0..TIED {
+                let p = tied(shape, n, random);
+                same(0, &p, &mut ours, &mut theirs);
+                same(1, &p, &mut ours, &mut theirs);
+                count += 1;
+            }
+        }
+    }
+    println!("equal weights, work numbers and mappings on {count} plants with many ties");
 }
 
 /// The microseconds of one call.
@@ -126,13 +162,14 @@ fn stack_used(call: usize, plants: &[Plant], f: fn(usize, &Plant, &mut Room) -> 
 }
 
 fn main() {
+    agree_on_ties(&mut Random(2685821657736338717));
     let mut random = Random(88172645463325252);
     let mut worst = [0.0f64; CALLS.len()];
-    for shape in ["path", "random tree", "balanced hubs", "hubs in a row"] {
+    for shape in SHAPES {
         let mut before = [0.0; CALLS.len()];
         for n in [16, 32, 64] {
             let plants: Vec<Plant> = (0..PLANTS).map(|i| plant(shape, n, i, &mut random)).collect();
-            plants.iter().for_each(|p| agree(p, n));
+            plants.iter().for_each(agree);
             for call in 0..CALLS.len() {
                 let (a, b) = measure(call, &plants);
                 let growth = if before[call] > 0.0 { format!("x{:.1}", b / before[call]) } else { String::new() };

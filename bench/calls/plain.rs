@@ -1,6 +1,8 @@
-//! The match in one call, and the job in slices, as one would write them in Rust for speed: each call reads and tests the bytes, solves its
-//! subproblems in the order of paper 01, and reads a mapping out. Weights and neighbours stand in fixed arrays that are built once; the gains
-//! of a pair of vertices are built once for all choices of s. The matching is the textbook Hungarian method (row by row, potentials, slack array).
+//! The baseline of the proved calls: the match in one call, and the job in slices, in plain Rust written for speed. Each call reads and tests
+//! the bytes, solves its subproblems in the order of paper 01, and reads out the mapping that the proved library reads out. Weights and
+//! neighbours stand in fixed arrays that are built once; the gains of a pair of vertices are built once for all choices of s. Each matching
+//! is solved afresh by the textbook Hungarian method (row by row, potentials, slack array). Only the read-out searches as the proved library
+//! does, to choose the same of several heaviest matchings.
 
 use pensummer::{VALUE_MOST, WEIGHT_MOST};
 
@@ -158,60 +160,6 @@ fn postorder(t: &Tree) -> ([u8; 64], [u8; 64]) {
     }
 }
 
-/// The textbook method on gains of 0 or more, rows * columns with rows <= columns: the greatest weight, the row of each column (counted from
-/// 1, 0 for none) at places 1 and up, and the potentials of rows and columns, whose opposites add up to at least each gain.
-#[inline]
-fn hungarian(gain: &[[i64; 8]; 8], rows: usize, columns: usize) -> (i64, [u8; 9], [i64; 16], [i64; 9]) {
-    let (mut u, mut v) = ([0i64; 16], [0i64; 9]);
-    let (mut row_of, mut way) = ([0u8; 9], [0u8; 9]);
-    let columns = columns.min(8);
-    for i in 1..=rows {
-        row_of[0] = i as u8;
-        let mut j0 = 0;
-        let (mut slack, mut used) = ([FAR; 9], [false; 9]);
-        loop {
-            used[j0] = true;
-            let i0 = row_of[j0] as usize & 15;
-            let (mut delta, mut j1) = (FAR, 0);
-            let (row, u0) = (&gain[(i0 - 1) & 7], u[i0]);
-            for j in 1..=columns {
-                if !used[j] {
-                    let reduced = -row[j - 1] - u0 - v[j];
-                    if reduced < slack[j] {
-                        slack[j] = reduced;
-                        way[j] = j0 as u8;
-                    }
-                    if slack[j] < delta {
-                        delta = slack[j];
-                        j1 = j;
-                    }
-                }
-            }
-            for j in 0..=columns {
-                if used[j] {
-                    u[row_of[j] as usize & 15] += delta;
-                    v[j] -= delta;
-                } else {
-                    slack[j] -= delta;
-                }
-            }
-            j0 = j1;
-            if row_of[j0] == 0 {
-                break;
-            }
-        }
-        loop {
-            let j1 = way[j0] as usize;
-            row_of[j0] = row_of[j1];
-            j0 = j1;
-            if j0 == 0 {
-                break;
-            }
-        }
-    }
-    (v[0], row_of, u, v)
-}
-
 /// All that a call knows before it solves.
 pub struct Plan {
     pub t: Table,
@@ -248,97 +196,103 @@ pub fn plan(table: &[u8], recorded: &[u8], found: &[u8]) -> Result<Plan, u32> {
     Ok(Plan { t, r, f, order, place, parent, width, starts, back })
 }
 
-/// The gains of u's children with all of v's neighbours.
+/// The gains of u's children with all of v's neighbours. FORBIDDEN is further below 0 than any weight or value is above, and so gives 0.
 #[inline]
 pub fn gains(p: &Plan, work: &[i32], kids: &[(usize, usize)], v: usize, g: &mut [[i64; 8]; 8]) {
-    let d = p.f.degree[v];
-    for (i, &(kind, base)) in kids.iter().enumerate() {
-        let edges = &p.t.edge[kind];
-        let values = &work[base..base + p.width];
+    let (d, edge, back) = (p.f.degree[v], &p.f.edge[v], &p.back[v]);
+    for (&(kind, base), row) in kids.iter().zip(g) {
+        let (edges, values) = (&p.t.edge[kind], &work[base..base + p.width]);
         for j in 0..d {
-            let (e, x) = (edges[p.f.edge[v][j] as usize & 7], values[p.back[v][j]]);
-            g[i][j] = if e == FORBIDDEN || x == FORBIDDEN { 0 } else { (e + x).max(0) as i64 };
+            row[j] = (edges[edge[j] as usize & 7] as i64 + values[back[j]] as i64).max(0);
         }
     }
 }
 
-/// The gains without column `out`, turned over if there are more rows than columns; and whether they were.
-#[inline]
-fn squeezed(g: &[[i64; 8]; 8], k: usize, d: usize, out: usize) -> ([[i64; 8]; 8], usize, bool) {
-    let l = if out < d { d - 1 } else { d };
-    let mut h = [[0i64; 8]; 8];
-    let turned = l < k;
+/// The gains turned over: a row for each of the d neighbours.
+#[inline(never)]
+fn turn(g: &[[i64; 8]; 8], k: usize, d: usize, turned: &mut [[i64; 8]; 8]) {
     for i in 0..k {
-        for j in 0..l {
-            let x = g[i][if j < out { j } else { j + 1 }];
-            if turned {
-                h[j][i] = x;
-            } else {
-                h[i][j] = x;
-            }
+        for j in 0..d {
+            turned[j][i] = g[i][j];
         }
     }
-    (h, l, turned)
 }
 
-/// The weight of the heaviest matching of k children with the d neighbours but the one in column `out`. One row or one column needs no
-/// matching.
+/// The columns of a set, ascending.
 #[inline]
-fn matching(g: &[[i64; 8]; 8], k: usize, d: usize, out: usize) -> i64 {
-    let l = if out < d { d - 1 } else { d };
-    if k == 1 || l <= 1 {
-        let mut best = 0;
-        for i in 0..k {
-            for j in 0..d {
-                if j != out {
-                    best = best.max(g[i][j]);
+fn members(mut set: u32) -> impl Iterator<Item = usize> {
+    std::iter::from_fn(move || {
+        let j = set.trailing_zeros() as usize;
+        set &= set.wrapping_sub(1);
+        (j < 8).then_some(j)
+    })
+}
+
+/// The weight of a heaviest matching by the textbook Hungarian method. `g` has gains of 0 or more; row `no_row` and column `no_column` are
+/// left out, 8 for none, and no more rows than columns are left. Each row in turn gets a column by a path search: a step finds the column of
+/// least slack outside the tree, moves the potentials of the tree by that slack, and takes in the column with its row, if it has one.
+#[inline(never)]
+fn hungarian(g: &[[i64; 8]; 8], rows: usize, columns: usize, no_row: usize, no_column: usize) -> i64 {
+    let all = ((1 << columns) - 1) & !(1 << no_column);
+    // potentials, whose sums cover the gains; each column's row, and the column before it on the path, 8 for none
+    let (mut u, mut v, mut row_of, mut way) = ([0; 8], [0; 8], [8; 8], [8; 8]);
+    let mut weight = 0;
+    for r in 0..rows {
+        if r == no_row {
+            continue;
+        }
+        let (mut slack, mut outside, mut tree) = ([FAR; 8], all, 0);
+        let (mut i, mut last) = (r, 8);
+        let mut end = loop {
+            let (mut delta, mut next) = (FAR, 8);
+            for j in members(outside) {
+                let reduced = u[i] + v[j] - g[i][j];
+                if reduced < slack[j] {
+                    (slack[j], way[j]) = (reduced, last);
                 }
+                if slack[j] < delta {
+                    (delta, next) = (slack[j], j);
+                }
+            }
+            weight -= delta;
+            u[r] -= delta;
+            for j in members(tree) {
+                u[row_of[j]] -= delta;
+                v[j] += delta;
+            }
+            if row_of[next] == 8 {
+                break next;
+            }
+            for x in &mut slack[..columns] {
+                *x -= delta;
+            }
+            outside &= !(1 << next);
+            tree |= 1 << next;
+            (i, last) = (row_of[next], next);
+        };
+        while end != 8 {
+            row_of[end] = if way[end] == 8 { r } else { row_of[way[end]] };
+            end = way[end];
+        }
+    }
+    weight
+}
+
+/// The weight of a heaviest matching of k children with the d neighbours but the one in column `out`; `turned` is read where d <= k. One row
+/// or one column needs no matching.
+#[inline]
+fn matching(g: &[[i64; 8]; 8], turned: &[[i64; 8]; 8], k: usize, d: usize, out: usize) -> i64 {
+    if k == 1 || d - (out < d) as usize <= 1 {
+        let mut best = 0;
+        for row in &g[..k] {
+            for (j, &x) in row[..d].iter().enumerate() {
+                best = best.max(if j == out { 0 } else { x });
             }
         }
         return best;
     }
-    let (h, l, turned) = squeezed(g, k, d, out);
-    hungarian(&h, k.min(l), if turned { k } else { l }).0
-}
-
-/// Each child's column in a heaviest matching, 8 for none.
-#[inline]
-fn columns_of(g: &[[i64; 8]; 8], k: usize, d: usize, out: usize) -> [u8; 8] {
-    let (h, l, turned) = squeezed(g, k, d, out);
-    let columns = if turned { k } else { l };
-    let (_, row_of, _, _) = hungarian(&h, k.min(l), columns);
-    let mut c = [8; 8];
-    for j in 1..=columns {
-        if row_of[j] != 0 {
-            let (a, b) = if turned { (j - 1, row_of[j] as usize - 1) } else { (row_of[j] as usize - 1, j - 1) };
-            let b = if b < out { b } else { b + 1 };
-            if g[a][b] > 0 {
-                c[a] = b as u8;
-            }
-        }
-    }
-    c
-}
-
-/// Duals of 0 or more: of the k children, and of the neighbours but the one in column `out`. Where all columns are matched, a row's may
-/// come out negative; then as much is given to the rows and taken from the columns.
-pub fn duals(g: &[[i64; 8]; 8], k: usize, d: usize, out: usize) -> ([i64; 8], [i64; 8]) {
-    let (h, l, turned) = squeezed(g, k, d, out);
-    let (rows, columns) = if turned { (l, k) } else { (k, l) };
-    let (_, _, u, v) = hungarian(&h, rows, columns);
-    let lift = u[1..=rows].iter().copied().max().unwrap_or(0).max(0);
-    let (mut y, mut z) = ([0; 8], [0; 8]);
-    for i in 0..rows {
-        y[i] = lift - u[i + 1];
-    }
-    for j in 0..columns {
-        z[j] = -v[j + 1] - lift;
-    }
-    if turned {
-        (z, y)
-    } else {
-        (y, z)
-    }
+    let (g, rows, columns, no_row, no_column) = if d <= k { (turned, d, k, out, 8) } else { (g, k, d, 8, out) };
+    hungarian(g, rows, columns, no_row, no_column)
 }
 
 /// The children of u: edge label, where their values begin, and the vertex.
@@ -358,7 +312,7 @@ pub fn children(p: &Plan, u: usize) -> ([(usize, usize); 8], [u8; 8], usize) {
 
 /// The subproblems from, from + 1, .. below `to`, each from the work numbers before it.
 pub fn fill(p: &Plan, work: &mut [i32], from: usize, to: usize) {
-    let mut g = [[0i64; 8]; 8];
+    let (mut g, mut turned) = ([[0; 8]; 8], [[0; 8]; 8]);
     let mut at = from;
     while at < to {
         let (i, rest) = (at / p.width, at % p.width);
@@ -367,40 +321,118 @@ pub fn fill(p: &Plan, work: &mut [i32], from: usize, to: usize) {
         let weights = &p.t.vertex[p.r.label[u] as usize];
         let (before, now) = work.split_at_mut(i * p.width);
         let end = (to - i * p.width).min(p.width);
+        let mut left = &mut now[rest..end];
         let mut v = p.starts[..p.f.n].iter().rposition(|&s| s <= rest).unwrap();
-        let mut q = rest - p.starts[v];
-        while p.starts[v] + q < end {
+        let mut first = rest - p.starts[v];
+        while !left.is_empty() {
             let d = p.f.degree[v];
-            let (first, last) = (p.starts[v] + q, (p.starts[v] + d + 1).min(end));
-            let out = &mut now[first..last];
+            let count = (d + 1 - first).min(left.len());
+            let (values, more) = left.split_at_mut(count);
             let w = weights[p.f.label[v] as usize];
             if w == FORBIDDEN || k == 0 {
-                out.fill(w);
+                values.fill(w);
             } else {
                 gains(p, before, &kids[..k], v, &mut g);
-                for (o, x) in out.iter_mut().enumerate() {
-                    let all = w as i64 + matching(&g, k, d, if q + o == 0 { 8 } else { q + o - 1 });
+                if 1 < d && d <= k {
+                    turn(&g, k, d, &mut turned);
+                }
+                for (i, x) in values.iter_mut().enumerate() {
+                    let all = w as i64 + matching(&g, &turned, k, d, if first + i == 0 { 8 } else { first + i - 1 });
                     *x = all.min(VALUE_MOST as i64) as i32;
                 }
             }
-            v += 1;
-            q = 0;
-            if v == p.f.n {
-                break;
-            }
+            (left, v, first) = (more, v + 1, 0);
         }
         at = i * p.width + end;
     }
 }
 
+/// A heaviest matching of rows with columns.
+pub struct Matching {
+    /// Duals of rows and of columns, 0 or more: their sums cover each gain, and all of them add up to the matching's weight.
+    pub y: [i64; 8],
+    pub z: [i64; 8],
+    /// Each row's column and each column's row, 8 for none.
+    pub column: [u8; 8],
+    row: [u8; 8],
+}
+
+/// The heaviest matching of k rows with d columns but column `out`, whose dual is FAR, that the proved library chooses: one path search for
+/// each row, with the duals of its tree settled at its end. A search takes the nearest column into its tree, the lowest of equals, and the
+/// row that has it. It ends at a column that no row has, or where none is nearer than to leave the tree row of the least dual without a
+/// column; so no pair of gain 0 is matched.
+pub fn chosen(g: &[[i64; 8]; 8], k: usize, d: usize, out: usize) -> Matching {
+    let mut m = Matching { y: [0; 8], z: [0; 8], column: [8; 8], row: [8; 8] };
+    let d = d.min(8);
+    if out < d {
+        m.z[out] = FAR;
+    }
+    for r in 0..k.min(8) {
+        // minus the weight that the search adds: `near` where it ends at column b, 8 for none, `low` where it ends at row `least`
+        let (mut low, mut least, mut near, mut b) = (0, r, 0, 8);
+        let (mut dist, mut from, mut tree) = ([0; 8], [r as u8; 8], 0u32);
+        for j in 0..d {
+            dist[j] = m.z[j] - g[r][j];
+            if dist[j] < near {
+                (near, b) = (dist[j], j);
+            }
+        }
+        let mut end = loop {
+            if b == 8 {
+                break std::mem::replace(&mut m.column[least & 7], 8) as usize;
+            }
+            let o = m.row[b & 7] as usize;
+            if o == 8 {
+                low = near;
+                break b;
+            }
+            tree |= 1 << b;
+            let base = m.y[o & 7] + near;
+            if base < low {
+                (low, least) = (base, o);
+            }
+            (near, b) = (low, 8);
+            for j in 0..d {
+                if tree >> j & 1 == 0 {
+                    let x = base + m.z[j] - g[o & 7][j];
+                    if x < dist[j] {
+                        (dist[j], from[j]) = (x, o as u8);
+                    }
+                    if dist[j] < near {
+                        (near, b) = (dist[j], j);
+                    }
+                }
+            }
+        };
+        m.y[r] = -low;
+        for j in 0..d {
+            if tree >> j & 1 == 1 {
+                m.y[m.row[j] as usize & 7] += dist[j] - low;
+                m.z[j] += low - dist[j];
+            }
+        }
+        while end != 8 {
+            let p = from[end & 7];
+            m.row[end & 7] = p;
+            end = std::mem::replace(&mut m.column[p as usize & 7], end as u8) as usize;
+        }
+    }
+    m
+}
+
+/// Each child's column in the matching of (u, v, s), 8 for none; not inlined, for the stack's sake.
+#[inline(never)]
+fn columns_of(p: &Plan, work: &[i32], kids: &[(usize, usize)], v: usize, s: u8) -> [u8; 8] {
+    let (d, mut g) = (p.f.degree[v], [[0; 8]; 8]);
+    gains(p, work, kids, v, &mut g);
+    let out = p.f.near[v][..d].iter().position(|&x| x == s).unwrap_or(8);
+    chosen(&g, kids.len(), d, out).column
+}
+
 fn read_out(p: &Plan, work: &[i32], u: usize, v: usize, s: u8, mapping: &mut [u8]) {
     mapping[u] = v as u8;
     let (kids, names, k) = children(p, u);
-    let mut g = [[0; 8]; 8];
-    gains(p, work, &kids[..k], v, &mut g);
-    let d = p.f.degree[v];
-    let out = p.f.near[v][..d].iter().position(|&x| x == s).unwrap_or(8);
-    let columns = columns_of(&g, k, d, out);
+    let columns = columns_of(p, work, &kids[..k], v, s);
     for i in 0..k {
         if columns[i] < 8 {
             read_out(p, work, names[i] as usize, p.f.near[v][columns[i] as usize] as usize, v as u8, mapping);
@@ -412,10 +444,10 @@ fn read_out(p: &Plan, work: &[i32], u: usize, v: usize, s: u8, mapping: &mut [u8
 pub fn deliver(p: &Plan, work: &[i32], mapping: &mut [u8]) -> i32 {
     let (mut best, mut top) = (0, None);
     for u in 0..p.r.n {
-        for v in 0..p.f.n {
-            let x = work[p.place[u] * p.width + p.starts[v]];
-            if x > best {
-                best = x;
+        let values = &work[p.place[u] * p.width..][..p.width];
+        for (v, &start) in p.starts[..p.f.n].iter().enumerate() {
+            if values[start] > best {
+                best = values[start];
                 top = Some((u, v));
             }
         }

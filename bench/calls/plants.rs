@@ -1,6 +1,8 @@
 //! Plants for the benchmark: a weight table and two trees of one shape and size, with random labels, as the bytes of paper 01.
 
-use pensummer::WEIGHT_MOST;
+use pensummer::{VERTICES_MOST, WEIGHT_MOST};
+
+pub const SHAPES: [&str; 4] = ["path", "random tree", "balanced hubs", "hubs in a row"];
 
 pub struct Plant {
     pub table: Vec<u8>,
@@ -70,13 +72,14 @@ fn tree(shape: &str, n: usize, labels: usize, edge_labels: usize, random: &mut R
     b
 }
 
-fn table(labels: usize, edge_labels: usize, random: &mut Random) -> Vec<u8> {
+/// A table with the weights that `weight` gives, told how rarely one is forbidden.
+fn table(labels: usize, edge_labels: usize, mut weight: impl FnMut(usize) -> i32) -> Vec<u8> {
     let mut b = vec![0xB1, 4, labels as u8, edge_labels as u8];
     for (mark, count, rare) in [(5, labels, 10), (6, edge_labels, 12)] {
         for _ in 0..count {
             b.extend([0xB1, mark]);
             for _ in 0..count {
-                b.extend(random.weight(rare).to_le_bytes());
+                b.extend(weight(rare).to_le_bytes());
             }
         }
     }
@@ -86,7 +89,18 @@ fn table(labels: usize, edge_labels: usize, random: &mut Random) -> Vec<u8> {
 /// The i-th plant of a line: K from 4 to 8, L from 1 to 3.
 pub fn plant(shape: &str, n: usize, i: usize, random: &mut Random) -> Plant {
     let (k, l) = (4 + i % 5, 1 + i % 3);
-    Plant { table: table(k, l, random), recorded: tree(shape, n, k, l, random), found: tree(shape, n, k, l, random) }
+    let table = table(k, l, |rare| random.weight(rare));
+    Plant { table, recorded: tree(shape, n, k, l, random), found: tree(shape, n, k, l, random) }
+}
+
+/// A plant that has many heaviest mappings: few labels, and weights from -2 to 3, so that many are equal, 0 or negative. The found tree is
+/// of any size and, every other time, of any shape.
+pub fn tied(shape: &str, n: usize, random: &mut Random) -> Plant {
+    let (k, l) = (1 + random.below(3), 1 + random.below(2));
+    let table = table(k, l, |rare| if random.below(rare) == 0 { i32::MIN } else { random.below(6) as i32 - 2 });
+    let other = if random.below(2) == 0 { shape } else { SHAPES[random.below(4)] };
+    let m = 1 + random.below(VERTICES_MOST);
+    Plant { table, recorded: tree(shape, n, k, l, random), found: tree(other, m, k, l, random) }
 }
 
 /// Two equal paths of 64 vertices, all of one label: read out to the greatest depth.
