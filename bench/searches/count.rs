@@ -1,18 +1,21 @@
 //! Prints how many path searches filling takes on the plants of bench/calls, of how many at most, and how often a pair of a child
 //! and a neighbour is looked at: sums over the six plants of a line. The counts are the proved library's own (crates/searches). It stops
 //! where a count is above its bound. Run it by run.sh.
+#[allow(dead_code)]
 #[path = "../calls/plants.rs"]
 mod plants;
 
 /// What plants.rs takes from the Rust crate, which is not linked here.
 mod pensummer {
+    pub const VERTICES_MOST: usize = 64;
     pub const WEIGHT_MOST: i32 = 16_000_000;
 }
 
-use plants::{plant, Random};
+use pensummer::VERTICES_MOST;
+use plants::{plant, Random, SHAPES};
 
 const PLANTS: usize = 6;
-const WORK_MOST: usize = 64 * (3 * 64 - 2);
+const WORK_MOST: usize = VERTICES_MOST * (3 * VERTICES_MOST - 2);
 
 /// As in crates/searches/src/pairs.rt.
 #[repr(C)]
@@ -58,7 +61,7 @@ fn tally(p: &plants::Plant, work: &mut [i32]) -> Tally {
 fn main() {
     let mut work = vec![0; WORK_MOST];
     let mut random = Random(88172645463325252);
-    for shape in &["path", "random tree", "balanced hubs", "hubs in a row"] {
+    for shape in &SHAPES {
         for &n in &[16, 32, 64] {
             let (mut searches, mut most, mut looks, mut reached, mut greatest) = (0, 0, 0, 0, 0);
             for i in 0..PLANTS {

@@ -1,9 +1,9 @@
 -- The weights of a table for each choice: of one row, and from the answer of all columns. Assumes nothing.
 use mathlib.Core.Path.{_≡_, refl, sym, ap, subst, _∙_}
 use mathlib.Core.Logic.{⊎-elim, _≢_}
-use mathlib.Core.Bool.{Bool, cond}
+use mathlib.Core.Bool.{cond}
 use mathlib.Core.List.{List}
-use Prim.Native.Nat.{ℕ, zero, suc, _+_, _-_, _≤_, _<_}
+use Prim.Native.Nat.{ℕ, zero, suc, _+_, _≤_, _<_}
 use native.Mathlib.Omega.{arith}
 use native.Mathlib.Nat.{not-suc-le-zero}
 use lib.Dec.{ltb, eqb}
@@ -15,9 +15,9 @@ use Rattle.foundations.specs.Tests.{same?, less?}
 use Rattle.foundations.specs.Sums.{sum, sum-zero, sum-ext}
 use Rattle.model.specs.Limits.{degreeLimit}
 use Rattle.assignment.specs.Matching.{at, outOf, out-yes, out-no, gained, weight}
-use Rattle.assignment.specs.State.{Sized, Solved, Total, Heaviest, WeightsOf}
+use Rattle.assignment.specs.State.{Solved, Total, Heaviest, WeightsOf}
 use Rattle.assignment.specs.Loops.{whoOf, Greatest}
-use Rattle.assignment.proofs.Roots.{out-none, heaviest-solved}
+use Rattle.assignment.proofs.Roots.{out-none}
 
 -- ---- the greatest gain of a row
 

@@ -11,7 +11,7 @@ use borrow.Author.Tests.{lt-ltb, le-ltb, eq-eqb, ne-eqb}
 use Rattle.foundations.specs.Tests.{and-false, same?, less?}
 use Rattle.foundations.specs.Sums.{sum, sum-ext, sum-add, sum-zero, sum-point}
 use Rattle.model.specs.Limits.{degreeLimit}
-use Rattle.assignment.specs.Matching.{at, outOf, out-yes, out-no, gainLimit, gained, weight, Injective, minus, bestColumn, best, all, Has, Feasible}
+use Rattle.assignment.specs.Matching.{at, out-yes, out-no, gainLimit, gained, weight, Injective, minus, bestColumn, best, all, Has, Feasible}
 use Rattle.assignment.specs.State.{State, Solved, Partner, Heaviest, WeightsOf}
 
 -- the duals of the free columns

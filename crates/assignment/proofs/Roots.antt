@@ -1,20 +1,19 @@
 -- The start and the quick ends of a search, the loop of `solve`, and the start of `without`. Assumes nothing.
 use mathlib.Core.Path.{_≡_, refl, sym, ap, subst, _∙_}
-use mathlib.Core.Logic.{_⊎_, inl, inr, ⊎-elim, _≢_}
+use mathlib.Core.Logic.{inl, inr, ⊎-elim, _≢_}
 use mathlib.Core.Bool.{true≢false, Bool, true, false, cond, not}
 use mathlib.Core.List.{List}
-use Prim.Native.Nat.{ℕ, _+_, _*_, _-_, _≤_, _<_}
+use Prim.Native.Nat.{ℕ, _+_, _-_, _≤_, _<_}
 use native.Mathlib.Omega.{arith}
 use native.Mathlib.Nat.{not-suc-le-zero}
 use lib.Dec.{eqb, ltb}
 use lib.ListN.{length, set, length-set, replicate, getD-replicate}
 use lib.Seq.{getD-set-same, getD-set-other}
-use borrow.Author.Count.{below-more}
 use borrow.Author.Tests.{eq-eqb, ne-eqb, lt-ltb, le-ltb, ltb-true}
 use Rattle.foundations.specs.Tests.{same?, less?, not-says}
 use Rattle.foundations.specs.Sums.{sum-ext}
-use Rattle.model.specs.Limits.{degreeLimit, pairLimit}
-use Rattle.assignment.specs.Matching.{at, cell, outOf, out-yes, out-no, gainLimit, all, gained, weight}
+use Rattle.model.specs.Limits.{degreeLimit}
+use Rattle.assignment.specs.Matching.{at, outOf, out-yes, out-no, gainLimit, all, gained, weight}
 use Rattle.assignment.specs.State.{Bytes, State, Sized, Lengths, Pending, Joined, Solved, Answer, Heaviest, Total, Partner, also}
 use Rattle.assignment.specs.Loops.{rowEnd, OwnersOf, First}
 use Rattle.assignment.specs.Tree.{Run, Rooted, Ended}

@@ -1,14 +1,14 @@
 -- The state between searches, for any set of finished rows, and the solution, in which every row is finished. Assumes nothing.
 use mathlib.Core.Path.{_≡_}
-use mathlib.Core.Logic.{_⊎_, _≢_}
+use mathlib.Core.Logic.{_⊎_}
 use mathlib.Core.Bool.{Bool, true, false, _||_}
 use mathlib.Core.List.{List}
 use Prim.Native.Nat.{ℕ, _+_, _≤_, _<_}
 use lib.Dec.{eqb}
 use lib.ListN.{length}
 use Rattle.foundations.specs.Sums.{sum}
-use Rattle.model.specs.Limits.{degreeLimit, pairLimit}
-use Rattle.assignment.specs.Matching.{at, cell, outOf, gainLimit, weight, Injective, Has, best, all, gained}
+use Rattle.model.specs.Limits.{degreeLimit}
+use Rattle.assignment.specs.Matching.{at, outOf, gainLimit, weight, Injective, Has, best, all, gained}
 
 -- the sizes, and the gains' limit
 pub record Sized (k l : ℕ) (g : ℕ → ℕ → ℕ) : Type 0 where

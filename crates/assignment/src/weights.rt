@@ -16,7 +16,6 @@ use model::Row;
 use model::WideRow;
 ghost use Prim.Native.Nat.{_+_, _-_, _<_, _≤_};
 ghost use mathlib.Core.Path.{_≡_};
-ghost use lib.ListN.{length};
 ghost use Rattle.model.specs.Limits.{degreeLimit};
 ghost use Rattle.assignment.specs.Matching.{at, cell, outOf};
 ghost use Rattle.assignment.specs.State.{Sized, Answer, Heaviest, WeightsOf};

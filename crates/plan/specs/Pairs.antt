@@ -20,7 +20,7 @@ use Rattle.model.specs.Bytes.{int32At}
 use Rattle.model.specs.Limits.{forbidden, forbiddenRank, vertexLimit, degreeLimit, pairLimit}
 use Rattle.model.specs.Weights.{Weight, none, some, weighed, plusW, isForbidden, weightOk}
 use Rattle.model.specs.Table.{vertexLabels, edgeLabels, edgeWeight, vertexWeight, vertexRow, edgeRow, column}
-use Rattle.model.specs.Tree.{count, vertexLabel, serial}
+use Rattle.model.specs.Tree.{count, serial}
 use Rattle.model.specs.Graph.{neighbours}
 use Rattle.model.specs.Order.{children, choices, width, index, subproblems}
 use Rattle.model.specs.Pairs.{apart, vertexPair, edgePair}
@@ -31,7 +31,6 @@ use Rattle.trees.specs.Neighbours.{Adjacent, mem-adjacent, adjacent-mem, adjace
 use Rattle.trees.specs.Rooted.{child-of, up-edge}
 use Rattle.trees.specs.Positions.{index-low, position-low}
 use Rattle.formats.specs.Table.{TablePassed}
-use Rattle.formats.specs.Inputs.{Accepted}
 use Rattle.integers.specs.Results.{gainMost, Gain}
 use Rattle.plan.specs.Plan.{recordedVertices, foundVertices, labelIn, serialIn, VertexIn, childCountIn, childEdgeIn, childPlaceIn, degreeIn, neighbourEdgeIn, behindIn, Ready, Pair}
 use Rattle.plan.specs.Numbers.{ready-accepted, ready-sound, ready-recorded}

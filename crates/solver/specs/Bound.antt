@@ -8,11 +8,11 @@ use native.Mathlib.Omega.{arith}
 use native.Mathlib.Numerals.{add-one}
 use native.Mathlib.Nat.{div-add-mod', mod-lt, add-zero, zero-add, min-eq-right, min-eq-left}
 use lib.Arith.{digits-mod}
-use lib.ListN.{length, getD}
+use lib.ListN.{length}
 use lib.Dec.{eqb}
 use borrow.Author.Tests.{eq-eqb}
 use Rattle.foundations.specs.Tests.{less?}
-use Rattle.foundations.specs.Sums.{sum, sum-zero, sum-ext, sum-first, sum-append}
+use Rattle.foundations.specs.Sums.{sum, sum-ext, sum-first, sum-append}
 use Rattle.model.specs.Limits.{degreeLimit}
 use Rattle.model.specs.Tree.{count}
 use Rattle.model.specs.Graph.{neighbours}

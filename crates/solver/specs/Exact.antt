@@ -17,7 +17,7 @@ use Rattle.model.specs.Weights.{Weight, none, some, _⊑_, plusW, maxW}
 use Rattle.model.specs.Values.{greatest, best}
 use Rattle.subtrees.specs.WeightLaws.{⊑-antisym, max-either}
 use Rattle.subtrees.specs.Matching.{Assign, gain, best-bounds}
-use Rattle.assignment.specs.Matching.{gained, weight, Injective}
+use Rattle.assignment.specs.Matching.{gained, weight}
 use Rattle.assignment.specs.State.{Solved, Dual}
 use Rattle.plan.specs.Pairs.{upW}
 

@@ -1,24 +1,21 @@
 -- The heaviest matching of a table of gains without one column. Assumes nothing.
-use mathlib.Core.Path.{_≡_, refl, sym, ap, _∙_, subst}
-use mathlib.Core.Logic.{_⊎_, inl, inr, ⊎-elim, _≢_}
-use mathlib.Core.Bool.{Bool, cond}
+use mathlib.Core.Path.{_≡_, sym, ap, _∙_}
+use mathlib.Core.Logic.{⊎-elim}
 use mathlib.Core.List.{List}
-use Prim.Native.Nat.{ℕ, zero, suc, _+_, _*_, _-_, _≤_, _<_, _^_}
+use Prim.Native.Nat.{ℕ, zero, suc, _+_, _*_, _≤_, _<_, _^_}
 use native.Mathlib.Omega.{arith}
-use native.Mathlib.Numerals.{add-one}
-use native.Mathlib.Nat.{not-suc-le-zero}
 use lib.ListN.{length, getD}
-use lib.Dec.{eqb, ltb}
+use lib.Dec.{eqb}
 use lib.IntN.{pos}
-use borrow.Author.Tests.{eq-eqb, ne-eqb, lt-ltb, le-ltb}
+use borrow.Author.Tests.{lt-ltb, le-ltb}
 use Rattle.foundations.specs.Tests.{same?, less?}
-use Rattle.foundations.specs.Sums.{sum, sum-zero, sum-ext, sum-const}
+use Rattle.foundations.specs.Sums.{sum}
 use Rattle.foundations.specs.Members.{Distinct, del}
-use Rattle.model.specs.Limits.{degreeLimit, pairLimit}
+use Rattle.model.specs.Limits.{degreeLimit}
 use Rattle.model.specs.Weights.{Weight, some}
 use Rattle.model.specs.Values.{best}
 use Rattle.integers.specs.Results.{gainMost}
-use Rattle.assignment.specs.Matching.{at, cell, outOf, out-yes, out-no, gained, weight}
+use Rattle.assignment.specs.Matching.{at, outOf, out-yes, out-no, gained, weight}
 use Rattle.assignment.specs.State.{Sized, Heaviest, WeightsOf}
 use Rattle.plan.specs.Pairs.{upW}
 use Rattle.solver.specs.Exact.{branchGain, Gains, solved-best}

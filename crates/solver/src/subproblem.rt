@@ -18,7 +18,7 @@ use plan::slot;
 use plan::weights::edge_pair;
 use plan::weights::gain_of;
 use plan::wide;
-ghost use Prim.Native.Nat.{_<_, _≤_};
+ghost use Prim.Native.Nat.{_<_};
 ghost use mathlib.Core.Path.{_≡_};
 ghost use lib.ListN.{length};
 ghost use Rattle.plan.specs.Pairs.{gainAt, RowFilled, Filled};
@@ -29,7 +29,7 @@ ghost use Rattle.assignment.specs.State.{Sized};
 ghost use Rattle.model.specs.Values.{Subproblem, recalled};
 ghost use Rattle.assignment.specs.Matching.{cell, outOf};
 ghost use Rattle.model.specs.Graph.{neighbours};
-ghost use Rattle.model.specs.Limits.{vertexLimit, degreeLimit, pairLimit};
+ghost use Rattle.model.specs.Limits.{vertexLimit, pairLimit};
 ghost use Rattle.model.specs.Order.{children};
 
 // The gains of u's i-th child with each neighbour of v, as row i of the table.

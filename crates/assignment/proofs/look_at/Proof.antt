@@ -4,7 +4,6 @@ use mathlib.Core.Logic.{_≢_}
 use Prim.Native.Nat.{_+_}
 use mathlib.Core.Bool.{true≢false}
 use borrow.Author.Tests.{eqb-true, eq-eqb}
-use native.Mathlib.Omega.{arith}
 use borrow.Author.Needs.{needs}
 use Rattle.assignment.specs.Matching.{out-yes, out-no}
 use Rattle.assignment.proofs.Counting.{looked-out, looked-in}

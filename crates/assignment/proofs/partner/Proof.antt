@@ -1,5 +1,5 @@
 -- `assignment::partner` meets its contract. The laws are in `Roots`. Assumes nothing.
-use mathlib.Core.Path.{_≡_, sym, _∙_}
+use mathlib.Core.Path.{sym, _∙_}
 use native.Mathlib.Omega.{arith}
 use borrow.Author.Needs.{needs}
 use Rattle.assignment.specs.Matching.{at, cell, outOf}

@@ -1,5 +1,5 @@
 -- `assignment::solve_counted` meets its contract. The invariant: the rows below r are finished, by r searches. Assumes nothing.
-use mathlib.Core.Path.{refl, sym}
+use mathlib.Core.Path.{refl}
 use Prim.Native.Nat.{_-_, _≤_}
 use native.Mathlib.Omega.{arith}
 use borrow.Author.Needs.{needs}

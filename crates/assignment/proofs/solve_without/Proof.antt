@@ -1,6 +1,5 @@
 -- `assignment::solve_without` meets its contract. Assumes nothing.
 use native.Mathlib.Omega.{arith}
-use borrow.Author.Needs.{needs}
 use Rattle.assignment.specs.Counts.{none-countable}
 use Rattle.assignment.proofs.solve_without.Statement.{statement}
 use Rattle.assignment.proofs.solve_without.Tie as tie

@@ -1,6 +1,5 @@
 -- `duals_of` meets its contract. Assumes nothing.
 use mathlib.Core.Path.{refl, sym, _∙_}
-use native.Mathlib.Omega.{arith}
 use borrow.Author.Needs.{needs}
 use Rattle.foundations.specs.Machine.{Same}
 use Rattle.solver.specs.Heaviest.{table-sized}

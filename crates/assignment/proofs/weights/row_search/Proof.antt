@@ -6,7 +6,7 @@ use borrow.Author.Needs.{needs}
 use Rattle.assignment.specs.Matching.{cell, outOf}
 use Rattle.assignment.specs.Loops.{Greatest}
 use Rattle.assignment.specs.Counts.{Tried}
-use Rattle.assignment.proofs.Counting.{counted, counted-fresh, search-row, tried-none, tried-more, tried-low, tried-end}
+use Rattle.assignment.proofs.Counting.{counted-fresh, search-row, tried-none, tried-more, tried-low}
 use Rattle.assignment.proofs.Choices.{greatest-none, greatest-more, greatest-end}
 use Rattle.assignment.proofs.weights.row_search.Statement.{statement}
 use Rattle.assignment.proofs.weights.row_search.Tie as tie

@@ -1,7 +1,5 @@
 -- `row_weights` meets its contract. Assumes nothing.
-use Prim.Native.Nat.{_+_}
 use native.Mathlib.Omega.{arith}
-use borrow.Author.Needs.{needs}
 use Rattle.assignment.specs.Counts.{countable-less, countable-after, searches-one, searches-both, searches-few}
 use Rattle.assignment.proofs.Choices.{row-none, row-some}
 use Rattle.assignment.proofs.weights.row_weights.Statement.{statement}

@@ -1,7 +1,6 @@
 -- `table_weights` meets its contract. The invariant: the weights up to choice c, by c further searches at most. Assumes nothing.
-use mathlib.Core.Path.{refl, _≡_, _∙_}
-use Prim.Native.Nat.{_+_, _-_, _≤_, _<_}
-use Rattle.model.specs.Limits.{degreeLimit}
+use mathlib.Core.Path.{refl, _∙_}
+use Prim.Native.Nat.{_-_, _≤_}
 use native.Mathlib.Omega.{arith}
 use borrow.Author.Needs.{needs}
 use Rattle.assignment.specs.Matching.{at, cell}

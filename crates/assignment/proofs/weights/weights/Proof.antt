@@ -1,5 +1,4 @@
 -- `weights` meets its contract. Assumes nothing.
-use native.Mathlib.Omega.{arith}
 use borrow.Author.Needs.{needs}
 use Rattle.assignment.proofs.weights.weights.Statement.{statement}
 use Rattle.assignment.proofs.weights.weights.Tie as tie

@@ -10,7 +10,7 @@ use Rattle.subtrees.specs.Filling.{length-fill}
 use Rattle.foundations.specs.Machine.{Same, back}
 use Prim.Native.Nat.{_≤_, _-_}
 use lib.ListN.{length}
-use mathlib.Core.Path.{_≡_, refl, sym, ap, _∙_}
+use mathlib.Core.Path.{_≡_, sym, ap, _∙_}
 use borrow.Author.Needs.{needs}
 use native.Mathlib.Omega.{arith}
 use Rattle.solver.proofs.fill.fill_pair.Statement.{statement}

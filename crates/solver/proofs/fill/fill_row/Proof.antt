@@ -1,5 +1,5 @@
 -- `fill_row` meets its contract. Each turn but the first begins with a pair, the next one. Assumes nothing.
-use Rattle.solver.specs.FillLaws.{lesser-is, fill-none, fill-slice, fill-lent, run-rest, run-room, pair-run}
+use Rattle.solver.specs.FillLaws.{lesser-is, fill-none, fill-slice, fill-lent, run-room, pair-run}
 use Rattle.solver.specs.Bound.{begins, searchMost, most-pair, most-more, most-upto, lesser-less, begins-next, next-located}
 use Rattle.assignment.specs.Counts.{Searches, countable-less, countable-after, searches-none, searches-both, searches-few}
 use Rattle.plan.specs.Plan.{offsetIn}
