@@ -49,7 +49,7 @@ pub record Search (n n′ : List ℕ) : Type 0 where
   pub counted : searches n′ ≡ searches n + 1
   pub once : (i x : ℕ) → i < degreeLimit → x < degreeLimit → cell n′ i x ≤ cell n i x + 1
 
--- at most k searches, in none of which a pair was looked at twice
+-- at most k searches; no pair's number grew by more than they did. That each search looks at a pair once at most is said of the search itself, by `Search`.
 pub record Searches (k : ℕ) (n n′ : List ℕ) : Type 0 where
   pub size : length n′ ≡ length n
   pub more : searches n ≤ searches n′

@@ -1,4 +1,4 @@
--- What the assignment's contracts say: matchings and their greatest weight, the state of a solution, the tree of a search, the small loops.
+-- What the assignment's contracts say: matchings and their greatest weight, the state of a solution, the tree of a search, the small loops, the counts.
 pub mod Matching
 pub mod State
 pub mod Loops

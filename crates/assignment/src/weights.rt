@@ -1,6 +1,6 @@
-//! The weight of the heaviest matching for each choice, from one matching: the whole, and from it the matching without each column by one further search at
-//! most. There are at most as many searches as rows and columns, all of them counted. Where there is one row, or one column, every path is a single pair,
-//! and a search needs no tree.
+//! The weight of the heaviest matching for each choice, from one matching: the whole, and from it the matching without each column by one
+//! further search at most. There are at most as many searches as rows and columns, all of them counted. From the only row, and from the
+//! only column, every path is a single pair, and a search needs no tree.
 use crate::Counts;
 use crate::FREE;
 use crate::SEARCHES;

@@ -15,8 +15,8 @@ use Rattle.solver.specs.Bound.{searchMost}
 use Rattle.searches.specs.declared.pairs.Tally.{Tally}
 use Rattle.searches.specs.Bounds.{boundTo}
 
--- The answer is the first item of a start that applies. Where one does, nothing is changed; else all work numbers are filled, and the counts are those
--- of at most `searchMost` searches, counted from 0.
+-- The answer is the first item of a start that applies. Where one does, nothing is changed; else all work numbers are filled, and from 0 at most
+-- `searchMost` searches are counted, and no pair of places more often than searches.
 pub record CountCall (table recorded found : List ℕ) (work : List ℤ) (counts : List ℕ) (work′ : List ℤ) (counts′ : List ℕ) (answer : ℕ) : Type 0 where
   pub number : answer ≡ startItem table recorded found work
   pub work-kept : answer ≢ 0 → work′ ≡ work
@@ -24,7 +24,7 @@ pub record CountCall (table recorded found : List ℕ) (work : List ℤ) (counts
   pub filled : answer ≡ 0 → work′ ≡ fill table recorded found work 0 (subproblems recorded found)
   pub counted : answer ≡ 0 → Searches (searchMost recorded found 0 (subproblems recorded found)) (replicate (pairLimit + 1) 0) counts′
 
--- The same pair by pair: no more searches than the bounds of the pairs, which add up to `searchMost`.
+-- The same pair by pair: all searches added up are no more than the bounds of all pairs, which add up to `searchMost`.
 pub record TallyCall (table recorded found : List ℕ) (work work′ : List ℤ) (t : Tally) : Type 0 where
   pub number : t .item ≡ startItem table recorded found work
   pub work-kept : t .item ≢ 0 → work′ ≡ work

@@ -58,7 +58,7 @@ module _ {k l c : ℕ} {w : ℕ → ℕ → Weight} {s : ℕ} {cs A : List ℕ} 
       solved-best w s cs A (outOf c g) (B .y) (B .z) (B .m) stands-gains (rw (S .rows, S .columns) (B .dual)) (S .rows-apart) (S .columns-apart)
       ∙ rw (S .rows, S .columns) (ap (λ (n : ℕ). some (pos n)) (sym (B .total)))
 
--- ---- by path searches
+-- ---- how much a matching can weigh
 
 pub sum-most : (k B : ℕ) (f : ℕ → ℕ) → ((i : ℕ) → i < k → f i ≤ B) → sum k f ≤ k * B
 unfolding sum

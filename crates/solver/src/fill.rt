@@ -1,5 +1,5 @@
-//! Filling: count subproblems from a position on, each from the work numbers before it. What u, and what u and v, have in common is found once: the
-//! gains, and from them the weight of the matching for each choice of s. The path searches that this takes are counted.
+//! Filling: count subproblems from a position on, each from the work numbers before it. What u and v have in common is found once: the gains, and
+//! from them the weight of the matching for each choice of s. The path searches that this takes are counted.
 use crate::subproblem::gains;
 use assignment::Counts;
 use assignment::weights::weights;
