@@ -7,11 +7,12 @@ use native.Mathlib.Omega.{arith}
 use lib.Dec.{eqb}
 use borrow.Author.Tests.{eq-eqb, ne-eqb, lt-ltb, le-ltb}
 use Rattle.foundations.specs.Tests.{same?, less?}
+use Rattle.foundations.specs.Sums.{sum, sum-ext, sum-add, sum-zero, sum-point}
 use Rattle.model.specs.Limits.{degreeLimit}
 use Rattle.assignment.specs.Matching.{gainLimit}
 use Rattle.assignment.specs.State.{State, also}
 use Rattle.assignment.specs.Loops.{lessOf, whoOf, rowEnd, columnEnd}
-use Rattle.assignment.specs.Tree.{Shifted, Put, Seen, Run}
+use Rattle.assignment.specs.Tree.{Shifted, Put, Seen, Run, Balance, marked}
 use Rattle.assignment.proofs.Steps.{matched-finished, shift-state, shift-tree, end-row, end-column, grow, start-tree, state-ext}
 
 less-yes : {new old : ℕ} → new < old → lessOf new old ≡ new
@@ -19,6 +20,51 @@ less-yes {new} {old} h = rw (lt-ltb new old h)
 
 less-no : {new old : ℕ} → old ≤ new → lessOf new old ≡ old
 less-no {new} {old} h = rw (le-ltb new old h)
+
+-- ---- the sum of all duals
+
+marked-in : (T : ℕ → ℕ) (x i : ℕ) → T i ≡ 1 → marked T x i ≡ x
+marked-in T x i t = rw (eq-eqb (T i) 1 t)
+
+marked-out : (T : ℕ → ℕ) (x i : ℕ) → T i ≢ 1 → marked T x i ≡ 0
+marked-out T x i t = rw (ne-eqb (T i) 1 t)
+
+-- one mark more
+marked-more : (n c x : ℕ) (T T′ : ℕ → ℕ) → c < n → T c ≢ 1 → Put n T c 1 T′ → sum n (marked T′ x) ≡ sum n (marked T x) + x
+marked-more n c x T T′ h out P =
+    let s = sum-point n (marked T′ x) (marked T x) c h (λ j hj ne. ap (λ (a : ℕ). cond (eqb a 1) x 0) (P .other j hj ne)) in
+    omega (arith, s, marked-in T′ x c (P .here), marked-out T x c out)
+
+balance-start : {k l r : ℕ} {T C : ℕ → ℕ} → r < k → T r ≡ 1 → ((i : ℕ) → i < k → i ≢ r → T i ≢ 1) → ((j : ℕ) → j < l → C j ≢ 1) → Balance k l T C
+balance-start {k} {l} {r} {T} {C} hr t Tn Cn = record {
+  even = λ x.
+      let s = sum-point k (marked T x) (λ i. 0) r hr (λ i hi n. marked-out T x i (Tn i hi n)) in
+      omega (arith, s, sum-zero k (λ i. 0) (λ i hi. refl), marked-in T x r t, sum-zero l (marked C x) (λ j hj. marked-out C x j (Cn j hj)));
+}
+
+balance-more : {k l o b : ℕ} {T C T′ C′ : ℕ → ℕ} → Balance k l T C → o < k → T o ≢ 1 → Put k T o 1 T′ → b < l → C b ≢ 1 → Put l C b 1 C′ → Balance k l T′ C′
+balance-more {k} {l} {o} {b} {T} {C} {T′} {C′} B ho to PT hb cb PC = record {
+  even = λ x. omega (arith, B .even x, marked-more k o x T T′ ho to PT, marked-more l b x C C′ hb cb PC);
+}
+
+-- tree rows fall and tree columns rise by e
+total-shifted : {k l e : ℕ} {T C y z S y′ z′ S′ : ℕ → ℕ} → Balance k l T C → Shifted k l e T C y z S y′ z′ S′ → sum k y′ + sum l z′ + e ≡ sum k y + sum l z
+total-shifted {k} {l} {e} {T} {C} {y} {z} {S} {y′} {z′} B sh =
+    let rows : sum k y ≡ sum k y′ + sum k (marked T e) =
+        sum-ext k y (λ i. y′ i + marked T e i) (λ i hi. ⊎-elim
+        (λ t. omega (arith, sh .yin i hi t, marked-in T e i t))
+        (λ t. omega (arith, sh .yout i hi t, marked-out T e i t))
+        (same? (T i) 1)) ∙ sum-add k y′ (marked T e)
+    in
+    let columns : sum l z′ ≡ sum l z + sum l (marked C e) =
+        sum-ext l z′ (λ j. z j + marked C e j) (λ j hj. ⊎-elim
+        (λ c. omega (arith, sh .zin j hj c, marked-in C e j c))
+        (λ c. omega (arith, sh .zout j hj c, marked-out C e j c))
+        (same? (C j) 1)) ∙ sum-add l z (marked C e)
+    in
+    omega (arith, rows, columns, B .even e)
+
+-- ---- the turns
 
 module _ {k l r : ℕ} {g : ℕ → ℕ → ℕ} {f : ℕ → Bool} {y z m T C W F J : ℕ → ℕ} {A : ℕ → ℕ → ℕ} (hr : r < k) (wait : f r ≡ false) where
   -- the distance goes up to e, where no tree row's dual and no slack falls below 0
@@ -37,6 +83,8 @@ module _ {k l r : ℕ} {g : ℕ → ℕ → ℕ} {f : ℕ → Bool} {y z m T C W
     zin = λ j hj c. omega (arith, z-in j c, R .zin j hj c);
     zout = λ j hj c. z-out j c ∙ R .zout j hj c;
     sout = λ j hj c. omega (arith, R .sout j hj c, columns j hj c);
+    balance = R .balance;
+    total = omega (arith, total-shifted (R .balance) sh, R .total);
   }
     where
       Y′ : ℕ → ℕ
@@ -95,6 +143,8 @@ module _ {k l r : ℕ} {g : ℕ → ℕ → ℕ} {f : ℕ → Bool} {y z m T C W
         (same? j b);
     zout = λ j hj c. R .zout j hj (c-out j hj c);
     sout = λ j hj c. omega (arith, above j hj (c-out j hj c));
+    balance = balance-more (R .balance) ho o-out PT hb out PC;
+    total = R .total;
   }
     where
       S′ : ℕ → ℕ
@@ -173,6 +223,10 @@ module _ {k l r : ℕ} {g : ℕ → ℕ → ℕ} {f : ℕ → Bool} {y z m T C W
         (λ c. ez j hj ∙ rw (ne-eqb (C j) 1 c) (sym (R .zout j hj c)))
         (same? (C j) 1)
 
+    -- the sum of all duals has fallen by the distance
+    pub run-end-total : sum k y′ + sum l z′ + e ≡ sum k y + sum l z
+    run-end-total = omega (arith, sum-ext k y′ (R .Y) end-y, sum-ext l z′ (R .Z) end-z, R .total)
+
     pub run-end-row : (a : ℕ) → a < k → T a ≡ 1 → y a + J a ≡ e → {m′ : ℕ → ℕ} → ((i : ℕ) → i < k → m′ i ≡ A a i) → State k l g (also r f) y′ z′ m′
     run-end-row a ha ta ea em = state-ext (end-row hr wait (R .state) (R .tree) a ha ta (let z0 : R .Y a ≡ 0 = omega (arith, R .yin a ha ta) in z0)) (λ i hi. refl) (λ i hi _. end-y i hi) end-z em
 
@@ -195,4 +249,6 @@ module _ {k l r : ℕ} {g : ℕ → ℕ → ℕ} {f : ℕ → Bool} {y z m T C W
     zin = λ j hj c. absurd (Cn j hj c);
     zout = λ j hj c. refl;
     sout = λ j hj c. omega arith;
+    balance = balance-start hr Tr Tn Cn;
+    total = omega arith;
   }

@@ -51,7 +51,15 @@ pub record Seen (l : ℕ) (gt : ℕ → ℕ) (yt : ℕ) (z C : ℕ → ℕ) (t :
   pub new : (j : ℕ) → j < l → C j ≢ 1 → S′ j + gt j ≤ yt + z j
   pub from : (j : ℕ) → j < l → C j ≢ 1 → ((S′ j ≡ S j) × (F′ j ≡ F j)) ⊎ ((S′ j + gt j ≡ yt + z j) × (F′ j ≡ t))
 
--- A search under way. The duals y and z in the arrays are those at its start; its own Y and Z are lower on tree rows and higher on tree columns. A row joined at distance J i and a column at W j, and D is the distance now, so a tree row's dual is y i + J i - D, a tree column's z j + D - W j, and the slack of a column outside W j - D. Duals are written to the arrays once, at the end.
+-- x where the mark is set, else 0
+abbrev pub marked : (ℕ → ℕ) → ℕ → ℕ → ℕ
+marked T x i = cond (eqb (T i) 1) x 0
+
+-- the tree has one row more than columns: x for each of its rows is x more than x for each of its columns
+pub record Balance (k l : ℕ) (T C : ℕ → ℕ) : Type 0 where
+  pub even : (x : ℕ) → sum k (marked T x) ≡ x + sum l (marked C x)
+
+-- A search under way. The duals y and z in the arrays are those at its start; its own Y and Z are lower on tree rows and higher on tree columns. A row joined at distance J i and a column at W j, and D is the distance now, so a tree row's dual is y i + J i - D, a tree column's z j + D - W j, and the slack of a column outside W j - D. The sum of all duals has fallen by D. Duals are written to the arrays once, at the end.
 pub record Run (k l r : ℕ) (g : ℕ → ℕ → ℕ) (finished : ℕ → Bool) (D : ℕ) (y z m T C W F J : ℕ → ℕ) (A : ℕ → ℕ → ℕ) : Type 0 where
   pub Y : ℕ → ℕ
   pub Z : ℕ → ℕ
@@ -66,6 +74,8 @@ pub record Run (k l r : ℕ) (g : ℕ → ℕ → ℕ) (finished : ℕ → Bool)
   pub zin : (j : ℕ) → j < l → C j ≡ 1 → Z j + W j ≡ z j + D
   pub zout : (j : ℕ) → j < l → C j ≢ 1 → Z j ≡ z j
   pub sout : (j : ℕ) → j < l → C j ≢ 1 → S j + D ≡ W j
+  pub balance : Balance k l T C
+  pub total : sum k Y + sum l Z + D ≡ sum k y + sum l z
 
 -- tree row a has the least y + J of the tree rows, which is `low`
 pub record Lowest (k : ℕ) (y T J : ℕ → ℕ) (a low : ℕ) : Type 0 where
