@@ -3,7 +3,7 @@ use mathlib.Core.Path.{_≡_, refl, sym, ap, subst, _∙_}
 use mathlib.Core.Logic.{⊎-elim, _≢_}
 use mathlib.Core.Bool.{cond}
 use mathlib.Core.List.{List}
-use Prim.Native.Nat.{ℕ, zero, suc, _+_, _≤_, _<_}
+use Prim.Native.Nat.{ℕ, zero, suc, _+_, _-_, _≤_, _<_}
 use native.Mathlib.Omega.{arith}
 use native.Mathlib.Nat.{not-suc-le-zero}
 use lib.Dec.{ltb, eqb}
@@ -15,11 +15,11 @@ use Rattle.foundations.specs.Tests.{same?, less?}
 use Rattle.foundations.specs.Sums.{sum, sum-zero, sum-ext}
 use Rattle.model.specs.Limits.{degreeLimit}
 use Rattle.assignment.specs.Matching.{at, outOf, out-yes, out-no, gained, weight}
-use Rattle.assignment.specs.State.{Solved, Total, Heaviest, WeightsOf}
-use Rattle.assignment.specs.Loops.{whoOf, Greatest}
+use Rattle.assignment.specs.State.{Solved, Total, Heaviest, SingleOf, WeightsOf}
+use Rattle.assignment.specs.Loops.{whoOf, secondOf, OwnersOf, Greatest, GreatestTwo}
 use Rattle.assignment.proofs.Roots.{out-none}
 
--- ---- the greatest gain of a row
+-- ---- the greatest
 
 pub greatest-none : (f : ℕ → ℕ) (b : ℕ) → Greatest 0 f b 0
 greatest-none f b = record { most = λ x h. absurd (not-suc-le-zero h); found = λ h. absurd (omega arith) }
@@ -42,12 +42,59 @@ greatest-more {j} {b} {d} {b′} {d′} {f} x G ex eb ed = ⊎-elim more less (l
 pub greatest-end : {j l b d : ℕ} {f : ℕ → ℕ} → Greatest j f b d → l ≤ j → j ≤ l → Greatest l f b d
 greatest-end {j} {l} {b} {d} {f} G p q = subst (λ (x : ℕ). Greatest x f b d) (let e : j ≡ l = omega arith in e) G
 
--- it stays where the column left out is another
-pub greatest-rest : {l b d : ℕ} (c : ℕ) (g : ℕ → ℕ → ℕ) → Greatest l (outOf 0 g 0) b d → (0 < d → b + 1 ≢ c) → Greatest l (outOf c g 0) b d
-greatest-rest {l} {b} {d} c g G apart = record {
-  most = λ x h. ⊎-elim (λ e. omega (arith, out-yes c g 0 x e)) (λ n. omega (arith, out-no c g 0 x n, out-none g 0 x, G .most x h)) (same? (x + 1) c);
-  found = λ h. let w = G .found h in (w .0, out-no c g 0 b (apart h) ∙ sym (out-none g 0 b) ∙ w .1);
-}
+-- ---- the two greatest
+
+pub two-none : (f : ℕ → ℕ) (b : ℕ) → GreatestTwo 0 f b 0 0
+two-none f b = record { most = λ x h. absurd (not-suc-le-zero h); found = λ h. absurd (omega arith); next = λ x h. absurd (not-suc-le-zero h); other = λ h. absurd (omega arith) }
+
+pub two-more : {j b d e b′ d′ e′ : ℕ} {f : ℕ → ℕ} (x : ℕ) → GreatestTwo j f b d e → x ≡ f j → e′ ≡ secondOf x d e → b′ ≡ whoOf d x j b → d′ ≡ whoOf d x x d → GreatestTwo (j + 1) f b′ d′ e′
+two-more {j} {b} {d} {e} {b′} {d′} {e′} {f} x G ex ee eb ed = ⊎-elim first (λ h. ⊎-elim (second h) (third h) (less? e x)) (less? d x)
+  where
+    first : d < x → GreatestTwo (j + 1) f b′ d′ e′
+    first h =
+        let p : b′ ≡ j = eb ∙ rw (lt-ltb d x h) in
+        let q : d′ ≡ x = ed ∙ rw (lt-ltb d x h) in
+        let s : e′ ≡ d = ee ∙ rw (lt-ltb d x h) in
+        record {
+          most = below-more (λ (i : ℕ). f i ≤ d′) j (λ i l. omega (arith, G .most i l)) (omega arith);
+          found = λ _. (omega arith, ap f p ∙ sym ex ∙ sym q);
+          next = below-more (λ (i : ℕ). i ≢ b′ → f i ≤ e′) j (λ i l n. omega (arith, G .most i l)) (λ n. absurd (n (sym p)));
+          other = λ u. let w = G .found (omega arith) in (b, omega (arith, w .0), (λ n. omega (arith, n, w .0)), w .1 ∙ sym s);
+        }
+
+    second : x ≤ d → e < x → GreatestTwo (j + 1) f b′ d′ e′
+    second h m =
+        let p : b′ ≡ b = eb ∙ rw (le-ltb d x h) in
+        let q : d′ ≡ d = ed ∙ rw (le-ltb d x h) in
+        let s : e′ ≡ x = ee ∙ rw (le-ltb d x h) (rw (lt-ltb e x m)) in
+        let w = G .found (omega arith) in
+        record {
+          most = below-more (λ (i : ℕ). f i ≤ d′) j (λ i l. omega (arith, G .most i l)) (omega arith);
+          found = λ _. (omega (arith, w .0), ap f p ∙ w .1 ∙ sym q);
+          next = below-more (λ (i : ℕ). i ≢ b′ → f i ≤ e′) j (λ i l n. omega (arith, G .next i l (λ a. n (a ∙ sym p)))) (λ n. omega arith);
+          other = λ u. (j, omega arith, (λ n. omega (arith, n, w .0)), sym ex ∙ sym s);
+        }
+
+    third : x ≤ d → x ≤ e → GreatestTwo (j + 1) f b′ d′ e′
+    third h m =
+        let p : b′ ≡ b = eb ∙ rw (le-ltb d x h) in
+        let q : d′ ≡ d = ed ∙ rw (le-ltb d x h) in
+        let s : e′ ≡ e = ee ∙ rw (le-ltb d x h) (rw (le-ltb e x m)) in
+        record {
+          most = below-more (λ (i : ℕ). f i ≤ d′) j (λ i l. omega (arith, G .most i l)) (omega arith);
+          found = λ u. let w = G .found (omega arith) in (omega (arith, w .0), ap f p ∙ w .1 ∙ sym q);
+          next = below-more (λ (i : ℕ). i ≢ b′ → f i ≤ e′) j (λ i l n. omega (arith, G .next i l (λ a. n (a ∙ sym p)))) (λ n. omega arith);
+          other = λ u. let w = G .other (omega arith) in (w .0, omega (arith, w .1), (λ n. w .2 (n ∙ p)), w .3 ∙ sym s);
+        }
+
+pub who-low : (x d j b : ℕ) {b′ n : ℕ} → b′ ≡ whoOf d x j b → j < n → b < n → b′ < n
+who-low x d j b {b′} {n} e p q = ⊎-elim
+    (λ h. let w : b′ ≡ j = e ∙ rw (lt-ltb d x h) in omega arith)
+    (λ h. let w : b′ ≡ b = e ∙ rw (le-ltb d x h) in omega arith)
+    (less? d x)
+
+pub two-end : {j l b d e : ℕ} {f : ℕ → ℕ} → GreatestTwo j f b d e → l ≤ j → j ≤ l → GreatestTwo l f b d e
+two-end {j} {l} {b} {d} {e} {f} G p q = subst (λ (x : ℕ). GreatestTwo x f b d e) (let w : j ≡ l = omega arith in w) G
 
 -- ---- one row
 
@@ -95,23 +142,32 @@ row-heaviest {l} {b} {d} {h} G = ⊎-elim some nothing (less? 0 d)
 many : (x v : ℕ) → x ≤ degreeLimit → at (replicate (degreeLimit + 1) v) x ≡ v
 many x v h = getD-replicate {A = ℕ} (degreeLimit + 1) x v 0 (omega arith)
 
--- no gain
-pub row-none : {l b d : ℕ} {g : ℕ → ℕ → ℕ} → l ≤ degreeLimit → Greatest l (outOf 0 g 0) b d → d ≤ 0 → WeightsOf 1 l g (replicate (degreeLimit + 1) d)
-row-none {l} {b} {d} {g} few G z = record {
-  size = refl;
-  each = λ c h. subst (λ (x : ℕ). Heaviest 1 l (outOf c g) x) (sym (many c d (omega arith))) (row-heaviest {b = b} (greatest-rest c g G (λ p. absurd (omega arith))));
-}
-
--- the best column is left out by another search
-pub row-some : {l b d b′ d′ : ℕ} {g : ℕ → ℕ → ℕ} → l ≤ degreeLimit → Greatest l (outOf 0 g 0) b d → 0 < d → Greatest l (outOf (b + 1) g 0) b′ d′ → WeightsOf 1 l g (set (replicate (degreeLimit + 1) d) (b + 1) d′)
-row-some {l} {b} {d} {b′} {d′} {g} few G p R = record {
-  size = length-set (replicate (degreeLimit + 1) d) (b + 1) d′;
+-- without the column of the greatest the second greatest is left, without another the greatest
+pub single-of : {l b d e : ℕ} {g : ℕ → ℕ → ℕ} → GreatestTwo l (g 0) b d e → SingleOf l g (b + 1) d e
+single-of {l} {b} {d} {e} {g} G = record {
   each = λ c h. ⊎-elim
-      (λ e. subst (λ (x : ℕ). Heaviest 1 l (outOf x g) (at (set (replicate (degreeLimit + 1) d) (b + 1) d′) x)) (sym e)
-      (subst (λ (x : ℕ). Heaviest 1 l (outOf (b + 1) g) x) (sym (getD-set-same (replicate (degreeLimit + 1) d) (b + 1) d′ 0 (omega arith))) (row-heaviest {b = b′} R)))
-      (λ n. subst (λ (x : ℕ). Heaviest 1 l (outOf c g) x) (sym (getD-set-other (replicate (degreeLimit + 1) d) (b + 1) c d′ 0 n ∙ many c d (omega arith))) (row-heaviest {b = b} (greatest-rest c g G (λ _ q. n (sym q)))))
+      (λ q. subst (λ (x : ℕ). Heaviest 1 l (outOf c g) x) (sym (taken c q)) (subst (λ (x : ℕ). Heaviest 1 l (outOf x g) e) (sym q) (⊎-elim some nothing (less? 0 e))))
+      (λ n. subst (λ (x : ℕ). Heaviest 1 l (outOf c g) x) (sym (left c n)) (row-heaviest {b = b} (record {
+        most = λ x hx. ⊎-elim (λ p. omega (arith, out-yes c g 0 x p)) (λ p. omega (arith, out-no c g 0 x p, G .most x hx)) (same? (x + 1) c);
+        found = λ u. let w = G .found u in (w .0, out-no c g 0 b (λ p. n (sym p)) ∙ w .1);
+      })))
       (same? c (b + 1));
 }
+  where
+    taken : (c : ℕ) → c ≡ b + 1 → cond (eqb c (b + 1)) e d ≡ e
+    taken c q = rw (eq-eqb c (b + 1) q)
+
+    left : (c : ℕ) → c ≢ b + 1 → cond (eqb c (b + 1)) e d ≡ d
+    left c n = rw (ne-eqb c (b + 1) n)
+
+    most : (x : ℕ) → x < l → outOf (b + 1) g 0 x ≤ e
+    most x hx = ⊎-elim (λ p. omega (arith, out-yes (b + 1) g 0 x p)) (λ p. omega (arith, out-no (b + 1) g 0 x p, G .next x hx (λ q. p (ap (λ (i : ℕ). i + 1) q)))) (same? (x + 1) (b + 1))
+
+    some : 0 < e → Heaviest 1 l (outOf (b + 1) g) e
+    some u = let w = G .other u in row-heaviest {b = w .0} (record { most = most; found = λ _. (w .1, out-no (b + 1) g 0 (w .0) (λ p. w .2 (omega (arith, p))) ∙ w .3) })
+
+    nothing : e ≤ 0 → Heaviest 1 l (outOf (b + 1) g) e
+    nothing u = row-heaviest {b = b} (record { most = most; found = λ p. absurd (omega arith) })
 
 -- ---- one column
 
@@ -173,16 +229,19 @@ column-heaviest {k} {b} {d} {h} G = ⊎-elim some nothing (less? 0 d)
     nothing : d ≤ 0 → Heaviest k 1 h d
     nothing p = let z : d ≡ 0 = omega arith in rw z (none-heaviest (λ i j hi hj. let c = covers i j hi hj in omega arith))
 
-pub column-weights-of : {k b d : ℕ} {g : ℕ → ℕ → ℕ} → Greatest k (λ i. outOf 0 g i 0) b d → WeightsOf k 1 g (set (replicate (degreeLimit + 1) 0) 0 d)
+pub column-weights-of : {k b d : ℕ} {g : ℕ → ℕ → ℕ} → Greatest k (λ i. g i 0) b d → WeightsOf k 1 g (set (replicate (degreeLimit + 1) 0) 0 d)
 column-weights-of {k} {b} {d} {g} G = record {
   size = length-set (replicate (degreeLimit + 1) 0) 0 d;
   each = λ c h. ⊎-elim
       (λ e. subst (λ (x : ℕ). Heaviest k 1 (outOf x g) (at (set (replicate (degreeLimit + 1) 0) 0 d) x)) (sym e)
-      (subst (λ (x : ℕ). Heaviest k 1 (outOf 0 g) x) (sym (getD-set-same (replicate (degreeLimit + 1) 0) 0 d 0 (omega arith))) (column-heaviest {b = b} G)))
+      (subst (λ (x : ℕ). Heaviest k 1 (outOf 0 g) x) (sym (getD-set-same (replicate (degreeLimit + 1) 0) 0 d 0 (omega arith))) (column-heaviest {b = b} whole)))
       (λ n. subst (λ (x : ℕ). Heaviest k 1 (outOf c g) x) (sym (getD-set-other (replicate (degreeLimit + 1) 0) 0 c d 0 n ∙ many c 0 (omega arith)))
       (none-heaviest (λ i j hi hj. out-yes c g i j (omega (arith, n)))))
       (same? c 0);
 }
+  where
+    whole : Greatest k (λ i. outOf 0 g i 0) b d
+    whole = record { most = λ x h. omega (arith, out-none g x 0, G .most x h); found = λ h. let w = G .found h in (w .0, out-none g b 0 ∙ w .1) }
 
 -- ---- any number of rows
 
@@ -200,6 +259,10 @@ all-heaviest {k} {l} {g} {y} {z} {m} S N = record {
   };
   total = N .equal;
 }
+
+-- the row of column c, as its choice c + 1 names it
+pub owner-at : {k r : ℕ} {m own : List ℕ} → OwnersOf k m own → (c : ℕ) → r ≡ at own c → at own (c + 1 - 1) ≡ r
+owner-at {own = own} O c e = ap (at own) (let w : c + 1 - 1 ≡ c = omega arith in w) ∙ sym e
 
 -- the weights of the choices up to c are there, and those after it are that of all
 pub record Filled (k l : ℕ) (g : ℕ → ℕ → ℕ) (all c : ℕ) (t : List ℕ) : Type 0 where

@@ -13,8 +13,12 @@ use Rattle.foundations.specs.Tests.{same?, less?}
 use Rattle.foundations.specs.Sums.{sum, sum-more}
 use Rattle.foundations.specs.Changed.{changed-none, changed-more}
 use Rattle.model.specs.Limits.{degreeLimit}
-use Rattle.assignment.specs.Matching.{at}
+use Rattle.assignment.specs.Matching.{at, cell, keptOf, outOf, out-kept}
 use Rattle.assignment.specs.Loops.{far, lessOf, whoOf, openOf, OwnersOf, Nearest, Looked, First}
+
+-- a gain that was looked at, without the column that choice c leaves out
+pub kept-is : (c : ℕ) (g : List ℕ) (i j : ℕ) {x v : ℕ} → x ≡ keptOf c j v → v ≡ cell g i j → x ≡ outOf c (cell g) i j
+kept-is c g i j e v = e ∙ ap (keptOf c j) v ∙ out-kept c (cell g) i j
 
 -- ---- a place set in a row that was just set
 

@@ -8,3 +8,4 @@ pub mod Counting
 pub mod Roots
 pub mod Choices
 pub mod Examples
+mod Distances

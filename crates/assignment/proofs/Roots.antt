@@ -14,7 +14,7 @@ use Rattle.foundations.specs.Tests.{same?, less?, not-says}
 use Rattle.foundations.specs.Sums.{sum-ext}
 use Rattle.model.specs.Limits.{degreeLimit}
 use Rattle.assignment.specs.Matching.{at, outOf, out-yes, out-no, gainLimit, all, gained, weight}
-use Rattle.assignment.specs.State.{Bytes, State, Sized, Lengths, Pending, Joined, Solved, Answer, Heaviest, Total, Partner, also}
+use Rattle.assignment.specs.State.{Bytes, State, Sized, Lengths, Pending, Joined, Solved, Answer, Heaviest, Total, Partner, also, but}
 use Rattle.assignment.specs.Loops.{rowEnd, OwnersOf, First}
 use Rattle.assignment.specs.Tree.{Run, Rooted, Ended}
 use Rattle.assignment.proofs.Duality.{solved}
@@ -24,7 +24,7 @@ use Rattle.assignment.proofs.Runs.{advance, run-start, run-end-row, run
 
 -- ---- the pending row's dual means nothing
 
-pub pending-put : {k l r : ℕ} {g : ℕ → ℕ → ℕ} (y z m : List ℕ) (v : ℕ) → Pending k l r g (at y) (at z) (at m) → Pending k l r g (at (set y r v)) (at z) (at m)
+unfoldable pub pending-put : {k l r : ℕ} {g : ℕ → ℕ → ℕ} (y z m : List ℕ) (v : ℕ) → Pending k l r g (at y) (at z) (at m) → Pending k l r g (at (set y r v)) (at z) (at m)
 pending-put {k} {l} {r} {g} y z m v p = record {
   finished = p .finished;
   state = state-ext (p .state) (λ i hi. refl) (λ i hi f. getD-set-other y r i v 0 (λ q. true≢false (sym f ∙ ap (p .finished) q ∙ p .pending))) (λ j hj. refl) (λ i hi. refl);
@@ -219,9 +219,6 @@ heaviest-solved {y = y} {z = z} {m = m} S N = record { y = y; z = z; m = m; dual
 
 -- ---- without the column that choice c leaves out
 
-abbrev but : ℕ → ℕ → Bool
-but r i = not (eqb i r)
-
 module _ {k l c : ℕ} {g : ℕ → ℕ → ℕ} {y z m : List ℕ} (S : Sized k l g) (c-some : 1 ≤ c) (hc : c ≤ l) (A : Answer k l g y z m) where
   abbrev h : ℕ → ℕ → ℕ
   h = outOf c g
@@ -297,32 +294,24 @@ module _ {k l c : ℕ} {g : ℕ → ℕ → ℕ} {y z m : List ℕ} (S : Sized k
     pub rest-bytes : Bytes l (set m r degreeLimit)
     rest-bytes = bytes-set r degreeLimit (A .bytes) (omega (arith, A .sizes .matching, S .rows)) (inr refl)
 
-    pub rest-pending : Pending k l r (h) (at y) (at (set z (c - 1) 0)) (at (set m r degreeLimit))
-    rest-pending = record {
-      finished = but r;
-      state = record {
-        feasible = λ i j hi f hj. covered i j hi hj;
-        tight = λ i hi lt. let n = not-r i lt in let w : at m i < l = omega (arith, m-other i n) in
-            subst (λ (x : ℕ). h i x ≡ at y i + at (set z (c - 1) 0) x) (sym (m-other i n)) (tight i hi w (not-c i hi n w));
-        injective = λ i j hi hj lt e. let n = not-r i lt in let n′ = not-r j (omega arith) in
-            A .solved .injective i j hi hj (omega (arith, m-other i n)) (sym (m-other i n) ∙ e ∙ m-other j n′);
-        columns = λ j hj. ⊎-elim
-            (λ q. inl (ap (at (set z (c - 1) 0)) q ∙ z-here))
-            (λ n. ⊎-elim
-            (λ e. inl (z-other j n ∙ e))
-            (λ p. inr (p .0, p .1, m-other (p .0) (λ q. n (sym (p .2) ∙ ap (at m) q ∙ mr)) ∙ p .2))
-            (A .solved .columns j hj))
-            (same? j (c - 1));
-        rows = λ i hi f. ⊎-elim inl (λ lt. inr (omega (arith, m-other i (others-no i f)))) (A .solved .rows i hi);
-        pending = λ i hi f. omega (arith, ap (at (set m r degreeLimit)) (others-r i f), m-here, l-few);
-        limit = λ i hi f. A .solved .row-limit i hi;
-      };
-      pending = rw (eq-eqb r r refl);
+    pub rest-state : State k l h (but r) (at y) (at (set z (c - 1) 0)) (at (set m r degreeLimit))
+    rest-state = record {
+      feasible = λ i j hi f hj. covered i j hi hj;
+      tight = λ i hi lt. let n = not-r i lt in let w : at m i < l = omega (arith, m-other i n) in
+          subst (λ (x : ℕ). h i x ≡ at y i + at (set z (c - 1) 0) x) (sym (m-other i n)) (tight i hi w (not-c i hi n w));
+      injective = λ i j hi hj lt e. let n = not-r i lt in let n′ = not-r j (omega arith) in
+          A .solved .injective i j hi hj (omega (arith, m-other i n)) (sym (m-other i n) ∙ e ∙ m-other j n′);
+      columns = λ j hj. ⊎-elim
+          (λ q. inl (ap (at (set z (c - 1) 0)) q ∙ z-here))
+          (λ n. ⊎-elim
+          (λ e. inl (z-other j n ∙ e))
+          (λ p. inr (p .0, p .1, m-other (p .0) (λ q. n (sym (p .2) ∙ ap (at m) q ∙ mr)) ∙ p .2))
+          (A .solved .columns j hj))
+          (same? j (c - 1));
+      rows = λ i hi f. ⊎-elim inl (λ lt. inr (omega (arith, m-other i (others-no i f)))) (A .solved .rows i hi);
+      pending = λ i hi f. omega (arith, ap (at (set m r degreeLimit)) (others-r i f), m-here, l-few);
+      limit = λ i hi f. A .solved .row-limit i hi;
     }
-
-    pub rest-searched : {y′ z′ m′ : List ℕ} → Ended k l r h y (set z (c - 1) 0) (set m r degreeLimit) y′ z′ m′ → Solved k l h (at y′) (at z′) (at m′)
-    unfolding rest-pending
-    rest-searched E = solved (E .joined .state rest-pending) (λ i hi. ⊎-elim (λ q. also-same r (but r) i q) (λ n. also-other r (but r) i n ∙ others-yes i n) (same? i r)) (sized-out c S .gains)
 
 -- ---- what a row has in the answer
 

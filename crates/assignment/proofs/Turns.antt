@@ -10,17 +10,17 @@ use lib.ListN.{length, getD, set, length-set, replicate, getD-replicate}
 use lib.Seq.{getD-set-same, getD-set-other}
 use borrow.Author.Tests.{eq-eqb, ne-eqb, lt-ltb, le-ltb}
 use Rattle.foundations.specs.Tests.{same?, less?}
-use Rattle.foundations.specs.Sums.{sum-point}
+use Rattle.foundations.specs.Sums.{sum, sum-point}
 use Rattle.model.specs.Limits.{degreeLimit}
 use Rattle.assignment.specs.Matching.{at, entry, gainLimit}
 use Rattle.assignment.specs.State.{Bytes, Pending}
 use Rattle.assignment.specs.Loops.{lessOf, whoOf, Looked, Room, Settled}
 use Rattle.assignment.specs.Tree.{Put, Run, Lowest, outside, Grown, Rooted, Turn, Ended}
-use Rattle.assignment.specs.Counts.{Tried, Fresh}
-use Rattle.assignment.proofs.Counting.{Tries, tries-more, tries-fresh}
+use Rattle.assignment.specs.Counts.{Tried, RowCountable}
+use Rattle.assignment.proofs.Counting.{Tries, tries-more, tries-countable}
 use Rattle.assignment.proofs.Duality.{column-limit}
 use Rattle.assignment.proofs.Steps.{matched-finished}
-use Rattle.assignment.proofs.Runs.{advance, run-grow, run-end-row, run-end-column, run-start}
+use Rattle.assignment.proofs.Runs.{advance, run-grow, run-end-total, run-end-row, run-end-column, run-start}
 
 put-set : (n : ℕ) (l : List ℕ) (c v : ℕ) → c < length l → Put n (at l) c v (at (set l c v))
 put-set n l c v h = record { here = getD-set-same l c v 0 h; other = λ j _ ne. getD-set-other l c j v 0 ne }
@@ -166,6 +166,12 @@ module _ {k l r : ℕ} {g : ℕ → ℕ → ℕ} {y₀ z₀ m₀ y z m own row c
     };
   }
 
+  -- the sum of all duals falls by the distance
+  pub turn-total-row : low ≤ d → {y′ z′ : List ℕ} → Settled k l low row col dist join y z y′ z′ → sum k (at y′) + sum l (at z′) + low ≡ sum k (at y) + sum l (at z)
+  turn-total-row le S = run-end-total (P .below) (P .pending .pending)
+      (advance (P .below) (P .pending .pending) R₀ low (level≤low (P .pending)) (X .lowest .small) (X .lowest .least) (λ j hj c. omega (arith, X .nearest .low j hj c)))
+      (S .rows .done) (S .columns .done)
+
   -- column b is nearer than that
   module _ (near : d < low) where
     found : (b < l) × (at col b ≢ 1) × (at dist b ≡ d)
@@ -202,6 +208,9 @@ module _ {k l r : ℕ} {g : ℕ → ℕ → ℕ} {y₀ z₀ m₀ y z m own row c
       };
     }
 
+    pub turn-total-column : {y′ z′ : List ℕ} → Settled k l d row col dist join y z y′ z′ → sum k (at y′) + sum l (at z′) + d ≡ sum k (at y) + sum l (at z)
+    turn-total-column S = run-end-total (P .below) (P .pending .pending) (moved (P .pending)) (S .rows .done) (S .columns .done)
+
     -- row o has column b, and both join the tree
     module _ (o : ℕ) (eo : o ≡ at own b) (lt : o < degreeLimit) where
       owner : (at own b < k) × (at m (at own b) ≡ b)
@@ -216,11 +225,14 @@ module _ {k l r : ℕ} {g : ℕ → ℕ → ℕ} {y₀ z₀ m₀ y z m own row c
       fo : P .pending .finished o ≡ true
       fo = matched-finished (R₀ .start) o o<k (omega (arith, mo, found .0))
 
-      o-out : at row o ≢ 1
-      o-out t = found .1 (subst (λ (x : ℕ). at col x ≡ 1) mo (R₀ .tree .rows o o<k t (λ q. omega (arith, R₀ .state .pending r (P .below) (P .pending .pending), ap (at m) q, mo, found .0)) .1))
+      pub o≢r : o ≢ r
+      o≢r q = omega (arith, R₀ .state .pending r (P .below) (P .pending .pending), ap (at m) q, mo, found .0)
 
-      pub o-fresh : {n₀ n : List ℕ} → ((i : ℕ) → i < degreeLimit → i ≢ r → Fresh i n₀) → Tries r row n₀ n → Fresh (at own b) n
-      o-fresh {n = n} F T = subst (λ (t : ℕ). Fresh t n) eo (tries-fresh F T lt o-out)
+      o-out : at row o ≢ 1
+      o-out t = found .1 (subst (λ (x : ℕ). at col x ≡ 1) mo (R₀ .tree .rows o o<k t o≢r .1))
+
+      pub o-countable : {n₀ n : List ℕ} → ((i : ℕ) → i < degreeLimit → i ≢ r → RowCountable i n₀) → Tries r row n₀ n → RowCountable (at own b) n
+      o-countable {n = n} F T = subst (λ (t : ℕ). RowCountable t n) eo (tries-countable F T lt o-out)
 
       pub base-small : at y o + d ≤ 2 * gainLimit
       base-small = omega (arith, R₀ .start .limit o o<k fo, X .lowest .small)
@@ -239,8 +251,8 @@ module _ {k l r : ℕ} {g : ℕ → ℕ → ℕ} {y₀ z₀ m₀ y z m own row c
         put-join = rw (J .joins) (put-set k join o d (omega (arith, X .arrays .joins)))
 
         -- the pairs of o are looked at for the first time
-        pub tries-grow : {c : ℕ} {n₀ n n′ : List ℕ} → Tries r row n₀ n → Tried c (at own b) l n n′ → Tries r row′ n₀ n′
-        tries-grow {c} {n = n} {n′ = n′} T S = tries-more c T o-out (omega (arith, X .arrays .rows)) (J .rows) (subst (λ (t : ℕ). Tried c t l n n′) (sym eo) S)
+        pub tries-grow : {n₀ n n′ : List ℕ} → Tries r row n₀ n → Tried (at own b) l n n′ → Tries r row′ n₀ n′
+        tries-grow {n = n} {n′ = n′} T S = tries-more T o-out (omega (arith, X .arrays .rows)) (J .rows) (subst (λ (t : ℕ). Tried t l n n′) (sym eo) S)
 
         pub fewer : outside l (at col′) < outside l (at col)
         fewer = outside-less l b (at col) (at col′) (found .0) (found .1) put-col

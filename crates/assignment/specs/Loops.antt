@@ -21,6 +21,10 @@ lessOf new old = cond (ltb new old) new old
 abbrev pub whoOf : ℕ → ℕ → ℕ → ℕ → ℕ
 whoOf new old t f = cond (ltb new old) t f
 
+-- the second greatest of x, d and e, where d is not less than e
+abbrev pub secondOf : ℕ → ℕ → ℕ → ℕ
+secondOf x d e = cond (ltb d x) d (whoOf e x x e)
+
 -- a column of the tree is not chosen
 abbrev pub openOf : ℕ → ℕ → ℕ
 openOf c x = cond (eqb c 1) far x
@@ -42,6 +46,13 @@ pub record OwnersOf (i : ℕ) (m own : List ℕ) : Type 0 where
 pub record Greatest (j : ℕ) (f : ℕ → ℕ) (b d : ℕ) : Type 0 where
   pub most : (x : ℕ) → x < j → f x ≤ d
   pub found : 0 < d → (b < j) × (f b ≡ d)
+
+-- of the f x below j none is greater than d, which b has where it is not 0; and of those but b none is greater than e, which one has where it is not 0
+pub record GreatestTwo (j : ℕ) (f : ℕ → ℕ) (b d e : ℕ) : Type 0 where
+  pub most : (x : ℕ) → x < j → f x ≤ d
+  pub found : 0 < d → (b < j) × (f b ≡ d)
+  pub next : (x : ℕ) → x < j → x ≢ b → f x ≤ e
+  pub other : 0 < e → (i : ℕ) × (i < j) × (i ≢ b) × (f i ≡ e)
 
 -- b is a column below j outside C with the least f, which is d; where there is none b is `degreeLimit` and d is `far`
 pub record Nearest (j : ℕ) (C f : ℕ → ℕ) (b d : ℕ) : Type 0 where

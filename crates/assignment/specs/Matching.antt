@@ -1,5 +1,5 @@
 -- Matchings of rows 0 .. k-1 with columns 0 .. l-1: their weight, and the greatest weight, by trying all. Assumes nothing.
-use mathlib.Core.Path.{_≡_}
+use mathlib.Core.Path.{_≡_, refl}
 use mathlib.Core.Logic.{_≢_}
 use mathlib.Core.Bool.{Bool, true, cond, not, _&&_}
 use mathlib.Core.List.{List, []}
@@ -23,9 +23,17 @@ cell g i j = getD g (i * degreeLimit + j) 0
 abbrev pub entry : List (List ℕ) → ℕ → ℕ → ℕ
 entry t i j = getD (getD t i []) j 0
 
+-- the gain x of a row with column j, 0 where choice c leaves the column out
+abbrev pub keptOf : ℕ → ℕ → ℕ → ℕ
+keptOf c j x = cond (eqb (j + 1) c) 0 x
+
 -- the gains without the column that choice c leaves out: none for 0, else column c - 1
 unfoldable pub outOf : ℕ → (ℕ → ℕ → ℕ) → ℕ → ℕ → ℕ
-outOf c g i j = cond (eqb (j + 1) c) 0 (g i j)
+outOf c g i j = keptOf c j (g i j)
+
+pub out-kept : (c : ℕ) (g : ℕ → ℕ → ℕ) (i j : ℕ) → keptOf c j (g i j) ≡ outOf c g i j
+unfolding outOf
+out-kept c g i j = refl
 
 pub out-yes : (c : ℕ) (g : ℕ → ℕ → ℕ) (i j : ℕ) → j + 1 ≡ c → outOf c g i j ≡ 0
 unfolding outOf

@@ -1,11 +1,11 @@
 -- The state between searches, for any set of finished rows, and the solution, in which every row is finished. Assumes nothing.
 use mathlib.Core.Path.{_≡_}
 use mathlib.Core.Logic.{_⊎_}
-use mathlib.Core.Bool.{Bool, true, false, _||_}
+use mathlib.Core.Bool.{Bool, true, false, cond, not, _||_}
 use mathlib.Core.List.{List}
 use Prim.Native.Nat.{ℕ, _+_, _≤_, _<_}
 use lib.Dec.{eqb}
-use lib.ListN.{length}
+use lib.ListN.{length, replicate}
 use Rattle.foundations.specs.Sums.{sum}
 use Rattle.model.specs.Limits.{degreeLimit}
 use Rattle.assignment.specs.Matching.{at, outOf, gainLimit, weight, Injective, Has, best, all, gained}
@@ -21,6 +21,11 @@ pub record Lengths (y z m : List ℕ) : Type 0 where
   pub rows : length y ≡ degreeLimit
   pub columns : length z ≡ degreeLimit
   pub matching : length m ≡ degreeLimit
+
+-- no row has a column, and no column a dual
+pub record Blank (z m : List ℕ) : Type 0 where
+  pub columns : z ≡ replicate degreeLimit 0
+  pub matching : m ≡ replicate degreeLimit degreeLimit
 
 -- each row has a column, or `degreeLimit`
 pub record Bytes (l : ℕ) (m : List ℕ) : Type 0 where
@@ -39,6 +44,10 @@ pub record State (k l : ℕ) (g : ℕ → ℕ → ℕ) (finished : ℕ → Bool)
 -- the finished rows, and r
 unfoldable pub also : ℕ → (ℕ → Bool) → ℕ → Bool
 also r finished i = finished i || eqb i r
+
+-- all rows but r
+abbrev pub but : ℕ → ℕ → Bool
+but r i = not (eqb i r)
 
 -- row r is pending; which rows are finished is free
 pub record Pending (k l r : ℕ) (g : ℕ → ℕ → ℕ) (y z m : ℕ → ℕ) : Type 0 where
@@ -81,6 +90,10 @@ pub record Heaviest (k l : ℕ) (g : ℕ → ℕ → ℕ) (r : ℕ) : Type 0 whe
   pub m : ℕ → ℕ
   pub dual : Dual k l g y z m
   pub total : r ≡ sum k y + sum l z
+
+-- of one row: the greatest weight is `rest` for the choice `out`, and `whole` for every other
+pub record SingleOf (l : ℕ) (g : ℕ → ℕ → ℕ) (out whole rest : ℕ) : Type 0 where
+  pub each : (c : ℕ) → c ≤ l → Heaviest 1 l (outOf c g) (cond (eqb c out) rest whole)
 
 -- t has the greatest weight for each choice: at 0 that of all columns, at c that without column c - 1
 pub record WeightsOf (k l : ℕ) (g : ℕ → ℕ → ℕ) (t : List ℕ) : Type 0 where

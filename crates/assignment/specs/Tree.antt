@@ -9,7 +9,7 @@ use lib.ListN.{length, getD, set}
 use Rattle.foundations.specs.Sums.{sum}
 use Rattle.model.specs.Limits.{degreeLimit}
 use Rattle.assignment.specs.Matching.{at, entry, gainLimit, Injective, Has}
-use Rattle.assignment.specs.State.{State, Sized, Lengths, Bytes, Pending, Joined}
+use Rattle.assignment.specs.State.{State, Sized, Lengths, Bytes, Pending, Joined, Solved, Answer, but}
 use Rattle.assignment.specs.Loops.{OwnersOf, Nearest}
 
 -- a is a matching of the columns of m in which row t has none, and the root has one. Rows outside the tree have what they have in m, and rows of the tree have tight columns of the tree.
@@ -139,3 +139,28 @@ pub record Ended (k l r : ℕ) (g : ℕ → ℕ → ℕ) (y z m y′ z′ m′ :
   pub sizes : Lengths y′ z′ m′
   pub bytes : Bytes l m′
   pub joined : Joined k l r g (at y) (at z) (at m) (at y′) (at z′) (at m′)
+
+-- row r is the only pending one, and some matching has no column for it; own has the row of each column
+pub record Vacant (k l r : ℕ) (g : ℕ → ℕ → ℕ) (y z own : List ℕ) : Type 0 where
+  pub m : List ℕ
+  pub sized : Sized k l g
+  pub below : r < k
+  pub sizes : Lengths y z m
+  pub bytes : Bytes l m
+  pub state : State k l g (but r) (at y) (at z) (at m)
+  pub owners : OwnersOf k m own
+
+-- a search from r ends at distance e: some answer has duals whose sum is that of y, with the limit for row r, and z, less e
+pub record Reached (k l r : ℕ) (g : ℕ → ℕ → ℕ) (y z : List ℕ) (e : ℕ) : Type 0 where
+  pub y′ : ℕ → ℕ
+  pub z′ : ℕ → ℕ
+  pub m′ : ℕ → ℕ
+  pub solved : Solved k l g y′ z′ m′
+  pub total : sum k y′ + sum l z′ + e + at y r ≡ sum k (at y) + sum l (at z) + gainLimit
+  pub limit : e ≤ gainLimit
+
+-- y and z are the duals of an answer, and own has the row of each column in its matching
+pub record Solution (k l : ℕ) (g : ℕ → ℕ → ℕ) (y z own : List ℕ) : Type 0 where
+  pub m : List ℕ
+  pub answer : Answer k l g y z m
+  pub owners : OwnersOf k m own

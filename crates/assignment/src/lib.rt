@@ -2,7 +2,8 @@
 //! each pair of a row and a column is looked at once at most. Searches and looks are counted. Gains are at `row * PLACES + column`, none above `GAIN_LIMIT`. The duals
 //! `y` of rows and `z` of columns show that no matching is heavier: their sums cover every gain, and the sum of all is the
 //! matching's weight. `m` has the column of each row, or `FREE`. A choice c leaves a column out: none for 0, else column c - 1. `weights`
-//! has the weight for each choice. The definitions are in `specs/`.
+//! has the weight for each choice, and `rest` that without one column. The definitions are in `specs/`.
+pub mod rest;
 pub mod weights;
 
 use model::Gains;
@@ -13,15 +14,14 @@ ghost use Prim.Native.Nat.{ℕ, _+_, _-_, _*_, _<_, _≤_};
 ghost use mathlib.Core.Path.{_≡_};
 ghost use mathlib.Core.Logic.{_≢_};
 ghost use lib.ListN.{length};
-ghost use lib.Dec.{eqb};
 ghost use Rattle.foundations.specs.Sums.{sum};
 ghost use Rattle.foundations.specs.Changed.{Changed};
 ghost use Rattle.model.specs.Limits.{degreeLimit, pairLimit};
-ghost use Rattle.assignment.specs.Matching.{at, cell, outOf, gainLimit};
-ghost use Rattle.assignment.specs.State.{Sized, Lengths, Bytes, Pending, Answer, Partner, Total};
+ghost use Rattle.assignment.specs.Matching.{at, cell, keptOf, outOf, gainLimit};
+ghost use Rattle.assignment.specs.State.{Sized, Lengths, Bytes, Blank, Pending, Answer, Partner, Total};
 ghost use Rattle.assignment.specs.Loops.{far, lessOf, whoOf, openOf, rowEnd, columnEnd, OwnersOf, Looked, First, Room, Settled};
 ghost use Rattle.assignment.specs.Tree.{Grown, Rooted, Ended};
-ghost use Rattle.assignment.specs.Counts.{lookedAt, Tried, Fresh, Once, Search, Searches, Countable};
+ghost use Rattle.assignment.specs.Counts.{lookedAt, Tried, RowCountable, Once, Search, Searches, Countable};
 
 // No gain is greater: 2 ^ 48.
 pub const GAIN_LIMIT: u64 = 281474976710656;
@@ -38,9 +38,9 @@ pub const SEARCHES: usize = Limits::PAIRS;
 const FAR: u64 = 18446744073709551615;
 
 // The nearest column outside a search's tree, or PLACES and `FAR`.
-struct Near {
-    column: usize,
-    distance: u64,
+pub(crate) struct Near {
+    pub(crate) column: usize,
+    pub(crate) distance: u64,
 }
 
 pub(crate) fn place(x: u8) -> usize
@@ -49,7 +49,7 @@ pub(crate) fn place(x: u8) -> usize
     x as usize
 }
 
-fn byte(x: usize) -> u8
+pub(crate) fn byte(x: usize) -> u8
     requires { ⌜ x < degreeLimit ⌝ }
     ensures { λ r. ⌜ r ≡ x ⌝ }
 {
@@ -57,7 +57,7 @@ fn byte(x: usize) -> u8
 }
 
 // The lesser of two distances, then the row and the column that have it.
-fn less_of(new: u64, old: u64) -> u64
+pub(crate) fn less_of(new: u64, old: u64) -> u64
     ensures { λ r. ⌜ r ≡ lessOf new old ⌝ }
 {
     if new < old { new } else { old }
@@ -99,29 +99,26 @@ fn owners(m: &Row, k: usize) -> Row
     own
 }
 
-// Whether choice c leaves column j out.
-fn is_out(c: usize, j: usize) -> bool
-    requires { ⌜ j < degreeLimit ⌝ }
-    ensures { λ r. ⌜ r ≡ eqb (j + 1) c ⌝ }
-{
-    j + 1 == c
-}
-
-// The gain of row i with column j, which is looked at once more. Where choice c leaves the column out it is 0, and not looked at.
-fn look_at(counts: &mut Counts, g: &Gains, c: usize, i: usize, j: usize) -> u64
+// The gain of row i with column j, which is looked at once more. No other function reads a gain in a search.
+pub(crate) fn look_at(counts: &mut Counts, g: &Gains, i: usize, j: usize) -> u64
     requires { ⌜ (length (now counts) ≡ pairLimit + 1) × (i < degreeLimit) × (j < degreeLimit) × (cell (now counts) i j < far) ⌝ }
-    ensures { λ r. ⌜ (r ≡ outOf c (cell (now (g .entry))) i j) × (now (counts .exit) ≡ lookedAt c i j (now (counts .entry))) ⌝ }
+    ensures { λ r. ⌜ (r ≡ cell (now (g .entry)) i j) × (now (counts .exit) ≡ lookedAt i j (now (counts .entry))) ⌝ }
 {
-    if is_out(c, j) {
-        return 0;
-    }
     let p = i * Limits::PLACES + j;
     counts[p] += 1;
     g[p]
 }
 
+// The gain x with column j, 0 where choice c leaves the column out.
+fn kept(c: usize, j: usize, x: u64) -> u64
+    requires { ⌜ j < degreeLimit ⌝ }
+    ensures { λ r. ⌜ r ≡ keptOf c j x ⌝ }
+{
+    if j + 1 == c { 0 } else { x }
+}
+
 // The distance of each column from row r at the greatest dual, and the nearest column.
-fn look_first(
+pub(crate) fn look_first(
     counts: &mut Counts,
     dist: &mut WideRow,
     g: &Gains,
@@ -131,14 +128,14 @@ fn look_first(
     r: usize,
 ) -> Near
     requires { ⌜ (length (now dist) ≡ degreeLimit) × (l ≤ degreeLimit) × (r < degreeLimit) × ((x : ℕ) → x < l → (at (now z) x ≤ gainLimit) × (outOf c (cell (now g)) r x ≤ gainLimit)) ⌝ }
-    requires { ⌜ Fresh r (now counts) ⌝ }
-    ensures { λ n. ⌜ (First l (λ x. gainLimit + at (now (z .entry)) x - outOf c (cell (now (g .entry))) r x) (now (dist .entry)) (now (dist .exit)) (n .column) (n .distance)) × (Tried c r l (now (counts .entry)) (now (counts .exit))) ⌝ }
+    requires { ⌜ RowCountable r (now counts) ⌝ }
+    ensures { λ n. ⌜ (First l (λ x. gainLimit + at (now (z .entry)) x - outOf c (cell (now (g .entry))) r x) (now (dist .entry)) (now (dist .exit)) (n .column) (n .distance)) × (Tried r l (now (counts .entry)) (now (counts .exit))) ⌝ }
 {
     let mut b = Limits::PLACES;
     let mut d = FAR;
     let mut j = 0;
     while j < l {
-        let x = look_at(counts, g, c, r, j);
+        let x = kept(c, j, look_at(counts, g, r, j));
         let s = GAIN_LIMIT + z[j] - x;
         dist[j] = s;
         b = place_of(s, d, j, b);
@@ -152,7 +149,7 @@ fn look_first(
 }
 
 // The distances after row o joined the tree, and the nearest column outside.
-fn look(
+pub(crate) fn look(
     counts: &mut Counts,
     dist: &mut WideRow,
     from: &mut Row,
@@ -165,15 +162,15 @@ fn look(
     base: u64,
 ) -> Near
     requires { ⌜ (length (now dist) ≡ degreeLimit) × (length (now from) ≡ degreeLimit) × (l ≤ degreeLimit) × (t < degreeLimit) × (base ≤ 2 * gainLimit) × ((x : ℕ) → x < l → (at (now z) x ≤ gainLimit) × (outOf c (cell (now g)) t x ≤ base + at (now z) x)) ⌝ }
-    requires { ⌜ Fresh t (now counts) ⌝ }
-    ensures { λ n. ⌜ (Looked l t (λ x. base + at (now (z .entry)) x - outOf c (cell (now (g .entry))) t x) (at (now (col .entry))) (now (dist .entry)) (now (from .entry)) (now (dist .exit)) (now (from .exit)) (n .column) (n .distance)) × (Tried c t l (now (counts .entry)) (now (counts .exit))) ⌝ }
+    requires { ⌜ RowCountable t (now counts) ⌝ }
+    ensures { λ n. ⌜ (Looked l t (λ x. base + at (now (z .entry)) x - outOf c (cell (now (g .entry))) t x) (at (now (col .entry))) (now (dist .entry)) (now (from .entry)) (now (dist .exit)) (now (from .exit)) (n .column) (n .distance)) × (Tried t l (now (counts .entry)) (now (counts .exit))) ⌝ }
 {
     let o = place(t);
     let mut b = Limits::PLACES;
     let mut d = FAR;
     let mut j = 0;
     while j < l {
-        let x = look_at(counts, g, c, o, j);
+        let x = kept(c, j, look_at(counts, g, o, j));
         let s = base + z[j] - x;
         let old = dist[j];
         let new = less_of(s, old);
@@ -288,7 +285,7 @@ fn explore(
     near: Near,
 )
     requires { ⌜ Rooted k l r (outOf c (cell (now g))) (now y) (now z) (now m) (now own) (now dist) (near .column) (near .distance) ⌝ }
-    requires { ⌜ ((i : ℕ) → i < degreeLimit → i ≢ r → Fresh i (now counts)) ⌝ }
+    requires { ⌜ ((i : ℕ) → i < degreeLimit → i ≢ r → RowCountable i (now counts)) ⌝ }
     ensures { λ _. ⌜ (Ended k l r (outOf c (cell (now (g .entry)))) (now (y .entry)) (now (z .entry)) (now (m .entry)) (now (y .exit)) (now (z .exit)) (now (m .exit))) × (Once r (now (counts .entry)) (now (counts .exit))) ⌝ }
 {
     let mut row = [0u8; Limits::PLACES];
@@ -363,7 +360,7 @@ pub(crate) fn search(
     *own = owners(m, k);
 }
 
-// The heaviest matching of k rows and l columns with its duals, one search for each row. What the arrays held does not matter.
+// The heaviest matching of k rows and l columns with its duals, one search for each row. No row has a column yet.
 pub(crate) fn solve_counted(
     counts: &mut Counts,
     g: &Gains,
@@ -375,13 +372,10 @@ pub(crate) fn solve_counted(
     m: &mut Row,
     own: &mut Row,
 )
-    requires { ⌜ (Sized k l (cell (now g))) × (Lengths (now y) (now z) (now m)) ⌝ }
+    requires { ⌜ (Sized k l (cell (now g))) × (length (now y) ≡ degreeLimit) × (Blank (now z) (now m)) × (now own ≡ now m) ⌝ }
     requires { ⌜ Countable k (now counts) ⌝ }
     ensures { λ _. ⌜ (Answer k l (outOf c (cell (now (g .entry)))) (now (y .exit)) (now (z .exit)) (now (m .exit))) × (OwnersOf k (now (m .exit)) (now (own .exit))) × (Searches k (now (counts .entry)) (now (counts .exit))) ⌝ }
 {
-    *z = [0u64; Limits::PLACES];
-    *m = [FREE; Limits::PLACES];
-    *own = [FREE; Limits::PLACES];
     let mut r = 0;
     while r < k {
         search(counts, g, k, l, c, r, y, z, m, own);
@@ -389,8 +383,7 @@ pub(crate) fn solve_counted(
     }
 }
 
-// The same where no one asks for the counts: what they hold after means nothing. The array is lent, so that it stands once where
-// this is called at many depths.
+// The same where no one asks for the counts or for the row of a column.
 pub fn solve_without(
     counts: &mut Counts,
     g: &Gains,
@@ -401,39 +394,23 @@ pub fn solve_without(
     z: &mut WideRow,
     m: &mut Row,
 )
-    requires { ⌜ (Sized k l (cell (now g))) × (Lengths (now y) (now z) (now m)) ⌝ }
+    requires { ⌜ (Sized k l (cell (now g))) × (length (now y) ≡ degreeLimit) × (Blank (now z) (now m)) ⌝ }
+    requires { ⌜ Countable k (now counts) ⌝ }
     ensures { λ _. ⌜ Answer k l (outOf c (cell (now (g .entry)))) (now (y .exit)) (now (z .exit)) (now (m .exit)) ⌝ }
 {
-    *counts = [0u64; Limits::PAIRS + 1];
     let mut own = [FREE; Limits::PLACES];
     solve_counted(counts, g, k, l, c, y, z, m, &mut own);
 }
 
-// The same with all columns.
-pub fn solve(
-    counts: &mut Counts,
-    g: &Gains,
-    k: usize,
-    l: usize,
-    y: &mut WideRow,
-    z: &mut WideRow,
-    m: &mut Row,
-)
-    requires { ⌜ (Sized k l (cell (now g))) × (Lengths (now y) (now z) (now m)) ⌝ }
+// The same with all columns. What the arrays held does not matter.
+pub fn solve(g: &Gains, k: usize, l: usize, y: &mut WideRow, z: &mut WideRow, m: &mut Row)
+    requires { ⌜ (Sized k l (cell (now g))) × (length (now y) ≡ degreeLimit) ⌝ }
     ensures { λ _. ⌜ Answer k l (cell (now (g .entry))) (now (y .exit)) (now (z .exit)) (now (m .exit)) ⌝ }
 {
-    solve_without(counts, g, k, l, 0, y, z, m);
-}
-
-// The gain of row i with column j, 0 where choice c leaves the column out.
-fn gain_or_zero(g: &Gains, c: usize, i: usize, j: usize) -> u64
-    requires { ⌜ (i < degreeLimit) × (j < degreeLimit) ⌝ }
-    ensures { λ r. ⌜ r ≡ outOf c (cell (now (g .entry))) i j ⌝ }
-{
-    if is_out(c, j) {
-        return 0;
-    }
-    g[i * Limits::PLACES + j]
+    let mut counts = [0u64; Limits::PAIRS + 1];
+    *z = [0u64; Limits::PLACES];
+    *m = [FREE; Limits::PLACES];
+    solve_without(&mut counts, g, k, l, 0, y, z, m);
 }
 
 // What row i has in the answer for choice c: its column, or FREE. A matched pair whose gain is 0 is no pair of the answer.
@@ -446,7 +423,7 @@ pub fn partner(g: &Gains, l: usize, c: usize, m: &Row, i: usize) -> u8
     if l <= j {
         return FREE;
     }
-    if gain_or_zero(g, c, i, j) == 0 {
+    if kept(c, j, g[i * Limits::PLACES + j]) == 0 {
         return FREE;
     }
     t

@@ -8,7 +8,7 @@ use Rattle.assignment.specs.Matching.{gainLimit}
 use Rattle.assignment.proofs.Duality.{column-limit}
 use Rattle.assignment.proofs.Leaves.{owners-put}
 use Rattle.assignment.proofs.Roots.{pending-none, rooted, end-covered, near-low, end-free, end-explored}
-use Rattle.assignment.proofs.Counting.{counted-fresh, search-row, search-rows, others-fresh}
+use Rattle.assignment.proofs.Counting.{counted-countable, search-row, search-rows, others-countable}
 use Rattle.assignment.proofs.search.Statement.{statement}
 use Rattle.assignment.proofs.search.Tie as tie
 
@@ -16,7 +16,7 @@ add-counts : tie.Need-add-counts
 add-counts c = omega (arith, c .before .pre .1 .limit)
 
 look-first-requires : tie.Need-look-first-requires
-look-first-requires c κs = let s = c .before .before .before .before in let q : s .args .r < degreeLimit = omega (arith, s .pre .0 .1, s .pre .0 .0 .rows) in ((refl, s .pre .0 .0 .columns, q, λ x h. (column-limit (s .pre .0 .4 .state) (s .pre .0 .0 .gains) x h, s .pre .0 .0 .gains (s .args .r) x (s .pre .0 .1) h)), counted-fresh (s .pre .1) (s .args .r) q)
+look-first-requires c κs = let s = c .before .before .before .before in let q : s .args .r < degreeLimit = omega (arith, s .pre .0 .1, s .pre .0 .0 .rows) in ((refl, s .pre .0 .0 .columns, q, λ x h. (column-limit (s .pre .0 .4 .state) (s .pre .0 .0 .gains) x h, s .pre .0 .0 .gains (s .args .r) x (s .pre .0 .1) h)), counted-countable (s .pre .1) (s .args .r) q)
 
 returns : tie.Need-returns
 returns c = (end-covered (c .before .before .before .before .before .before .pre .0 .2) (rooted (c .before .before .before .before .before .before .pre .0 .0) (c .before .before .before .before .before .before .pre .0 .1) (c .before .before .before .before .before .before .pre .0 .2) (c .before .before .before .before .before .before .pre .0 .3) (c .before .before .before .before .before .before .pre .0 .4) refl (c .before .before .before .before .before .before .pre .0 .5) (c .before .look-first .ensures .0)) (c .if1 .taken), c .before .before .before .before .before .before .pre .0 .5, search-row (c .before .before .before .before .before .before .pre .1) (c .before .look-first .ensures .1))
@@ -37,7 +37,7 @@ returns-2 : tie.Need-returns-2
 returns-2 c = (rw (c .before .byte .ensures) (end-free (c .before .before .before .before .before .before .before .before .before .before .pre .0 .2) (rooted (c .before .before .before .before .before .before .before .before .before .before .pre .0 .0) (c .before .before .before .before .before .before .before .before .before .before .pre .0 .1) (c .before .before .before .before .before .before .before .before .before .before .pre .0 .2) (c .before .before .before .before .before .before .before .before .before .before .pre .0 .3) (c .before .before .before .before .before .before .before .before .before .before .pre .0 .4) refl (c .before .before .before .before .before .before .before .before .before .before .pre .0 .5) (c .before .before .before .before .before .look-first .ensures .0)) (c .before .before .before .before .if1 .left) (c .before .before .if2 .taken)), owners-put (c .before .before .before .before .before .before .before .before .before .before .pre .0 .5) (c .before .before .before .before .before .before .before .before .before .before .pre .0 .0 .rows) (c .before .before .before .before .before .before .before .before .before .before .pre .0 .2 .matching) (c .before .before .before .before .before .before .before .before .before .before .pre .0 .1) (pending-none (c .before .before .before .before .before .before .before .before .before .before .pre .0 .3) (c .before .before .before .before .before .before .before .before .before .before .pre .0 .1) (c .before .before .before .before .before .before .before .before .before .before .pre .0 .0 .rows) (c .before .before .before .before .before .before .before .before .before .before .pre .0 .4)) (near-low (c .before .before .before .before .before .before .before .before .before .before .pre .0 .2) (rooted (c .before .before .before .before .before .before .before .before .before .before .pre .0 .0) (c .before .before .before .before .before .before .before .before .before .before .pre .0 .1) (c .before .before .before .before .before .before .before .before .before .before .pre .0 .2) (c .before .before .before .before .before .before .before .before .before .before .pre .0 .3) (c .before .before .before .before .before .before .before .before .before .before .pre .0 .4) refl (c .before .before .before .before .before .before .before .before .before .before .pre .0 .5) (c .before .before .before .before .before .look-first .ensures .0)) (c .before .before .before .before .if1 .left)) (c .before .before .if2 .taken) (c .before .byte .ensures) (c .byte2 .ensures), search-row (c .before .before .before .before .before .before .before .before .before .before .pre .1) (c .before .before .before .before .before .look-first .ensures .1))
 
 explore-requires : tie.Need-explore-requires
-explore-requires c κs = ((rooted (c .before .before .before .before .before .before .before .before .before .before .before .before .before .before .pre .0 .0) (c .before .before .before .before .before .before .before .before .before .before .before .before .before .before .pre .0 .1) (c .before .before .before .before .before .before .before .before .before .before .before .before .before .before .pre .0 .2) (c .before .before .before .before .before .before .before .before .before .before .before .before .before .before .pre .0 .3) (c .before .before .before .before .before .before .before .before .before .before .before .before .before .before .pre .0 .4) refl (c .before .before .before .before .before .before .before .before .before .before .before .before .before .before .pre .0 .5) (c .before .before .before .before .before .before .before .before .before .look-first .ensures .0)), λ i hi n. others-fresh (c .before .before .before .before .before .before .before .before .before .before .before .before .before .before .pre .1) (c .before .before .before .before .before .before .before .before .before .look-first .ensures .1) i hi n)
+explore-requires c κs = ((rooted (c .before .before .before .before .before .before .before .before .before .before .before .before .before .before .pre .0 .0) (c .before .before .before .before .before .before .before .before .before .before .before .before .before .before .pre .0 .1) (c .before .before .before .before .before .before .before .before .before .before .before .before .before .before .pre .0 .2) (c .before .before .before .before .before .before .before .before .before .before .before .before .before .before .pre .0 .3) (c .before .before .before .before .before .before .before .before .before .before .before .before .before .before .pre .0 .4) refl (c .before .before .before .before .before .before .before .before .before .before .before .before .before .before .pre .0 .5) (c .before .before .before .before .before .before .before .before .before .look-first .ensures .0)), λ i hi n. others-countable (c .before .before .before .before .before .before .before .before .before .before .before .before .before .before .pre .1) (c .before .before .before .before .before .before .before .before .before .look-first .ensures .1) i hi n)
 
 owners-requires : tie.Need-owners-requires
 owners-requires c κs = c .before .before .before .before .before .before .before .before .before .before .before .before .before .before .before .before .pre .0 .0 .rows

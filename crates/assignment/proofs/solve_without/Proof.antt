@@ -1,11 +1,10 @@
 -- `assignment::solve_without` meets its contract. Assumes nothing.
-use native.Mathlib.Omega.{arith}
-use Rattle.assignment.specs.Counts.{none-countable}
+use mathlib.Core.Path.{sym}
 use Rattle.assignment.proofs.solve_without.Statement.{statement}
 use Rattle.assignment.proofs.solve_without.Tie as tie
 
 solve-counted-requires : tie.Need-solve-counted-requires
-solve-counted-requires c κs = let p = c .before .before .before .before .before .before .pre in (p, none-countable _ (omega (arith, p .0 .rows)))
+solve-counted-requires c κs = let p = c .before .before .before .before .before .pre in ((p .0 .0, p .0 .1, p .0 .2, sym (p .0 .2 .matching)), p .1)
 
 returns : tie.Need-returns
 returns c = c .solve-counted .ensures .0
