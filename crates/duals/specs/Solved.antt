@@ -134,7 +134,7 @@ module _ {table r f : List ℕ} {plan : List (List ℕ)} (N : Ready table r f pl
       M = D .matched h
 
       stands : Stands k l c weigh s (children r u) (neighbours f v) (cell g)
-      stands = choice-stands N Q work g k l c ek el (G .filled h) low
+      stands = choice-stands N Q work g k l c (ek ∙ children-is N Q) el (G .filled h) low
 
       left-gains : Gains weigh s (children r u) (neighbours f v) (outOf c (cell g))
       left-gains = stands-gains stands

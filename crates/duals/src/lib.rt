@@ -5,6 +5,7 @@ use model::Gains;
 use model::Limits;
 use model::WideRow;
 use plan::Plan;
+use solver::subproblem::children_of;
 use solver::subproblem::gains;
 ghost use mathlib.Core.Path.{_≡_};
 ghost use lib.ListN.{length};
@@ -50,7 +51,8 @@ pub fn pair_gains(
     if integers::is_forbidden(w) {
         return g;
     }
-    gains(&mut g, table, recorded, found, plan, work, u, v);
+    let of = children_of(table, recorded, found, plan, u);
+    gains(&mut g, table, recorded, found, plan, work, of, v);
     g
 }
 

@@ -12,6 +12,11 @@ use Rattle.model.specs.Values.{recalled}
 use Rattle.plan.specs.Plan.{childEdgeIn, childPlaceIn, neighbourEdgeIn, behindIn, Ready, Lent, Pair}
 use Rattle.plan.specs.Pairs.{EdgePair, GainIs, gainAt, gain-is, branch-index, branch-low}
 
+-- recorded vertex u has n children, and w work numbers stand for each of them
+pub record ChildrenOf (r f : List ℕ) (u n w : ℕ) : Type 0 where
+  pub counted : n ≡ length (children r u)
+  pub wide : w ≡ width f
+
 module _ {table r f : List ℕ} {plan : List (List ℕ)} (N : Ready table r f plan) {u v : ℕ} (Q : Pair r f u v) (i : ℕ) (hi : i < length (children r u)) (j : ℕ) (hj : j < length (neighbours f v)) where
   pub work-low : {work : List ℤ} → Lent r f work → childPlaceIn plan u i * width f + behindIn plan v j < length work
   work-low {work} E = let a = branch-low N Q i hi j hj in let n : subproblems r f ≤ length work = E .enough in omega arith

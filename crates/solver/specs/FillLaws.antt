@@ -26,7 +26,7 @@ use Rattle.assignment.specs.Matching.{cell}
 use Rattle.assignment.specs.State.{Sized}
 use Rattle.subtrees.specs.Matching.{best-ext}
 use Rattle.subtrees.specs.Filling.{length-fill, fill-more, fill-keeps, solve-forbidden, solve-stored}
-use Rattle.plan.specs.Plan.{childCountIn, degreeIn, offsetIn, orderIn, Ready, Lent, Pair}
+use Rattle.plan.specs.Plan.{degreeIn, offsetIn, orderIn, Ready, Lent, Pair}
 use Rattle.plan.specs.Numbers.{Located, ready-accepted, width-some, width-few, number-u, offsets-are, rest-in, number-v, number-s}
 use Rattle.plan.specs.Pairs.{VertexPair, gainAt, Filled, weighed-none, weighed-number, children-few, degree-few}
 use Rattle.solver.specs.Exact.{left-of, best-none}
@@ -86,14 +86,13 @@ fill-repeated table r f work k (suc n) x h = rw (fill-repeated table r f work k 
 module _ {table r f : List ℕ} {plan : List (List ℕ)} (N : Ready table r f plan) where
   -- ---- a pair's table of gains stands for its choice c of s
 
-  pub choice-stands : {u v : ℕ} → Pair r f u v → (work : List ℤ) (g : List ℕ) (k l c : ℕ) → k ≡ childCountIn plan u → l ≡ degreeIn plan v → Filled (length (children r u)) (length (neighbours f v)) (gainAt table r f (recalled r f work) u v) g → c ≤ length (neighbours f v)
+  pub choice-stands : {u v : ℕ} → Pair r f u v → (work : List ℤ) (g : List ℕ) (k l c : ℕ) → k ≡ length (children r u) → l ≡ degreeIn plan v → Filled (length (children r u)) (length (neighbours f v)) (gainAt table r f (recalled r f work) u v) g → c ≤ length (neighbours f v)
       → Stands k l c (branch table r f (recalled r f work) u v) (getD (choices f v) c 0) (children r u) (neighbours f v) (cell g)
   unfolding gainAt
   choice-stands {u} {v} Q work g k l c ek el D h =
-      let a : k ≡ length (children r u) = ek ∙ N .planned .recorded u (Q .u-low) .child-count in
       let b : l ≡ length (neighbours f v) = el ∙ N .planned .found v (Q .v-low) .degree in
       record {
-        rows = sym a;
+        rows = sym ek;
         columns = sym b;
         rows-apart = once-children r u;
         columns-apart = once-neighbours f v;
@@ -113,9 +112,8 @@ module _ {table r f : List ℕ} {plan : List (List ℕ)} (N : Ready table r f pl
     run-forbidden w P e work = fill-repeated table r f work from n forbidden (λ i h x. run-solve i h x ∙ solve-forbidden table r f x u v _ (P .is ∙ weighed-none w e))
 
     -- no children
-    pub run-leaf : (w x : ℤ) → VertexPair table r f u v w → isForbidden w ≡ false → childCountIn plan u ≡ 0 → x ≡ stored w 0 → (work : List ℤ) → repeated work from n x ≡ fill table r f work from n
-    run-leaf w x P e z d work =
-        let none : length (children r u) ≡ 0 = sym (N .planned .recorded u (R .pair .u-low) .child-count) ∙ z in
+    pub run-leaf : (w x : ℤ) → VertexPair table r f u v w → isForbidden w ≡ false → length (children r u) ≡ 0 → x ≡ stored w 0 → (work : List ℤ) → repeated work from n x ≡ fill table r f work from n
+    run-leaf w x P e none d work =
         fill-repeated table r f work from n x (λ i h y. run-solve i h y ∙ solve-stored table r f y u v _ w 0 (P .is ∙ weighed-number w e) (best-none _ _ _ none) ∙ sym d)
 
     -- the numbers behind the branches of u stay while u's are filled
@@ -134,30 +132,28 @@ module _ {table r f : List ℕ} {plan : List (List ℕ)} (N : Ready table r f pl
         ap weighed (fill-keeps table r f work from i (index r f c x v) (inl low))
 
     -- the table of gains
-    pub run-table : (work : List ℤ) (g : List ℕ) (k l : ℕ) → k ≡ childCountIn plan u → l ≡ degreeIn plan v → Filled (length (children r u)) (length (neighbours f v)) (gainAt table r f (recalled r f work) u v) g → (i : ℕ) → i < n → Table k l (q + i) (cell g)
+    pub run-table : (work : List ℤ) (g : List ℕ) (k l : ℕ) → k ≡ length (children r u) → l ≡ degreeIn plan v → Filled (length (children r u)) (length (neighbours f v)) (gainAt table r f (recalled r f work) u v) g → (i : ℕ) → i < n → Table k l (q + i) (cell g)
     run-table work g k l ek el D i h =
-        let a : k ≡ length (children r u) = ek ∙ N .planned .recorded u (R .pair .u-low) .child-count in
         let b : l ≡ length (neighbours f v) = el ∙ N .planned .found v (R .pair .v-low) .degree in
         let d = R .choice i h in
         record {
-          rows = omega (arith, a, children-few N (R .pair));
+          rows = omega (arith, ek, children-few N (R .pair));
           columns = omega (arith, b, degree-few N (R .pair));
           choice = omega arith;
           small = λ x y hx hy. D .get x y (omega arith) (omega arith) .1;
         }
 
-    pub run-sized : (work : List ℤ) (g : List ℕ) (k l : ℕ) → k ≡ childCountIn plan u → l ≡ degreeIn plan v → Filled (length (children r u)) (length (neighbours f v)) (gainAt table r f (recalled r f work) u v) g → Sized k l (cell g)
+    pub run-sized : (work : List ℤ) (g : List ℕ) (k l : ℕ) → k ≡ length (children r u) → l ≡ degreeIn plan v → Filled (length (children r u)) (length (neighbours f v)) (gainAt table r f (recalled r f work) u v) g → Sized k l (cell g)
     run-sized work g k l ek el D =
-        let a : k ≡ length (children r u) = ek ∙ N .planned .recorded u (R .pair .u-low) .child-count in
         let b : l ≡ length (neighbours f v) = el ∙ N .planned .found v (R .pair .v-low) .degree in
         record {
-          rows = omega (arith, a, children-few N (R .pair));
+          rows = omega (arith, ek, children-few N (R .pair));
           columns = omega (arith, b, degree-few N (R .pair));
           gains = λ x y hx hy. let s = D .get x y (omega arith) (omega arith) .1 in omega arith;
         }
 
     -- the number of the i-th
-    pub run-number : (work : List ℤ) (g : List ℕ) (k l : ℕ) → k ≡ childCountIn plan u → l ≡ degreeIn plan v → Filled (length (children r u)) (length (neighbours f v)) (gainAt table r f (recalled r f work) u v) g
+    pub run-number : (work : List ℤ) (g : List ℕ) (k l : ℕ) → k ≡ length (children r u) → l ≡ degreeIn plan v → Filled (length (children r u)) (length (neighbours f v)) (gainAt table r f (recalled r f work) u v) g
         → (w : ℤ) → VertexPair table r f u v w → isForbidden w ≡ false → (i : ℕ) → i < n → (total : ℕ) (x : ℤ) → HeaviestMatching k l (q + i) (cell g) total → x ≡ stored w total → x ≡ solve table r f (fill table r f work from i) (from + i)
     run-number work g k l ek el D w P e i h total x H d =
         d

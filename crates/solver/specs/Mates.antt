@@ -25,7 +25,7 @@ use Rattle.trees.specs.Rooted.{once-children}
 use Rattle.subtrees.specs.Matching.{Assign, assign-ext}
 use Rattle.assignment.specs.Matching.{at, cell, outOf, gained}
 use Rattle.assignment.specs.State.{Answer, Partner}
-use Rattle.plan.specs.Plan.{neighbourIn, childCountIn, degreeIn, Ready, Pair}
+use Rattle.plan.specs.Plan.{neighbourIn, degreeIn, Ready, Pair}
 use Rattle.plan.specs.Numbers.{SlotAt, ready-accepted}
 use Rattle.solver.specs.Choice.{mateIn, hasMate, ChoiceAt}
 use Rattle.assignment.specs.State.{Dual}
@@ -155,10 +155,7 @@ sub-pair Q = record { u-low = Q .u-low; v-low = Q .v-low }
 
 -- what a pair's table and its choice of s come to
 module _ {table r f : List ℕ} {plan : List (List ℕ)} (N : Ready table r f plan) {u v s : ℕ} (Q : Subproblem r f u v s) (work : List ℤ) (g : List ℕ) (D : Filled (length (children r u)) (length (neighbours f v)) (gainAt table r f (recalled r f work) u v) g)
-    {k l c : ℕ} (ek : k ≡ childCountIn plan u) (el : l ≡ degreeIn plan v) (L : SlotAt plan v s c) where
-  rows-are : k ≡ length (children r u)
-  rows-are = ek ∙ N .planned .recorded u (Q .u-low) .child-count
-
+    {k l c : ℕ} (ek : k ≡ length (children r u)) (el : l ≡ degreeIn plan v) (L : SlotAt plan v s c) where
   columns-are : l ≡ length (neighbours f v)
   columns-are = el ∙ N .planned .found v (Q .v-low) .degree
 
@@ -167,7 +164,6 @@ module _ {table r f : List ℕ} {plan : List (List ℕ)} (N : Ready table r f pl
 
   pub sub-table : Table k l c (cell g)
   sub-table =
-      let a = rows-are in
       let b = columns-are in
       record {
         rows = omega (arith, children-few N (sub-pair Q));
@@ -179,10 +175,9 @@ module _ {table r f : List ℕ} {plan : List (List ℕ)} (N : Ready table r f pl
   sub-stands : Stands k l c (branch table r f (recalled r f work) u v) s (children r u) (neighbours f v) (cell g)
   unfolding gainAt
   sub-stands =
-      let a = rows-are in
       let b = columns-are in
       record {
-        rows = sym a;
+        rows = sym ek;
         columns = sym b;
         rows-apart = once-children r u;
         columns-apart = once-neighbours f v;

@@ -1,5 +1,7 @@
 //! Filling: count subproblems from a position on, each from the work numbers before it. What u and v have in common is found once: the gains, and
 //! from them the weight of the matching for each choice of s. The path searches that this takes are counted.
+use crate::subproblem::Children;
+use crate::subproblem::children_of;
 use crate::subproblem::gains;
 use assignment::Counts;
 use assignment::weights::weights;
@@ -8,7 +10,6 @@ use integers::lesser;
 use model::Gains;
 use model::Limits;
 use plan::Plan;
-use plan::child_count;
 use plan::counts::width_of;
 use plan::degree;
 use plan::in_order;
@@ -23,6 +24,7 @@ ghost use Rattle.model.specs.Order.{subproblems};
 ghost use Rattle.model.specs.Values.{fill};
 ghost use Rattle.plan.specs.Plan.{Ready, Lent};
 ghost use Rattle.assignment.specs.Counts.{Searches, Countable};
+ghost use Rattle.solver.specs.Branches.{ChildrenOf};
 ghost use Rattle.solver.specs.FillLaws.{repeated, RowRun, PairRun};
 ghost use Rattle.solver.specs.Bound.{pairMost, searchMost};
 
@@ -56,19 +58,20 @@ fn fill_pair(
     found: &[u8],
     plan: &Plan,
     work: &mut [i32],
-    u: u8,
+    of: Children,
     v: u8,
     run: Run,
 )
     requires { ⌜ Ready (now table) (now recorded) (now found) (now plan) ⌝ }
     requires { ⌜ Lent (now recorded) (now found) (now work) ⌝ }
-    requires { ⌜ PairRun (now recorded) (now found) u v (run .first) (run .from) (run .count) ⌝ }
+    requires { ⌜ ChildrenOf (now recorded) (now found) (of .u) (of .count) (of .width) ⌝ }
+    requires { ⌜ PairRun (now recorded) (now found) (of .u) v (run .first) (run .from) (run .count) ⌝ }
     requires { ⌜ length (now g) ≡ pairLimit ⌝ }
-    requires { ⌜ Countable (pairMost (now recorded) (now found) u v) (now counts) ⌝ }
-    ensures { λ _. ⌜ (now (work .exit) ≡ fill (now (table .entry)) (now (recorded .entry)) (now (found .entry)) (now (work .entry)) (run .from) (run .count)) × (length (now (g .exit)) ≡ pairLimit) × (Searches (pairMost (now (recorded .entry)) (now (found .entry)) u v) (now (counts .entry)) (now (counts .exit))) ⌝ }
+    requires { ⌜ Countable (pairMost (now recorded) (now found) (of .u) v) (now counts) ⌝ }
+    ensures { λ _. ⌜ (now (work .exit) ≡ fill (now (table .entry)) (now (recorded .entry)) (now (found .entry)) (now (work .entry)) (run .from) (run .count)) × (length (now (g .exit)) ≡ pairLimit) × (Searches (pairMost (now (recorded .entry)) (now (found .entry)) (of .u) v) (now (counts .entry)) (now (counts .exit))) ⌝ }
 {
-    let w = vertex_pair(table, plan, u, v);
-    let k = child_count(plan, u);
+    let w = vertex_pair(table, plan, of.u, v);
+    let k = of.count;
     let l = degree(plan, v);
     let first = run.first;
     let from = run.from;
@@ -81,7 +84,7 @@ fn fill_pair(
         repeat(work, integers::stored_value(w, 0), from, count);
         return;
     }
-    gains(g, table, recorded, found, plan, work, u, v);
+    gains(g, table, recorded, found, plan, work, of, v);
     let mut t = [0u64; Limits::PLACES + 1];
     weights(&mut t, counts, g, k, l);
     let mut i = 0;
@@ -111,6 +114,7 @@ fn fill_row(
     requires { ⌜ Countable (searchMost (now recorded) (now found) (run .from) (run .count)) (now counts) ⌝ }
     ensures { λ _. ⌜ (now (work .exit) ≡ fill (now (table .entry)) (now (recorded .entry)) (now (found .entry)) (now (work .entry)) (run .from) (run .count)) × (length (now (g .exit)) ≡ pairLimit) × (Searches (searchMost (now (recorded .entry)) (now (found .entry)) (run .from) (run .count)) (now (counts .entry)) (now (counts .exit))) ⌝ }
 {
+    let of = children_of(table, recorded, found, plan, u);
     let m = vertex_count(found);
     let first = run.first;
     let from = run.from;
@@ -126,7 +130,7 @@ fn fill_row(
             from: at,
             count: c,
         };
-        fill_pair(counts, g, table, recorded, found, plan, work, u, v, part);
+        fill_pair(counts, g, table, recorded, found, plan, work, of, v, part);
         v += 1;
         q = 0;
         i += c;

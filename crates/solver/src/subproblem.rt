@@ -23,14 +23,36 @@ ghost use mathlib.Core.Path.{_≡_};
 ghost use lib.ListN.{length};
 ghost use Rattle.plan.specs.Pairs.{gainAt, RowFilled, Filled};
 ghost use Rattle.plan.specs.Plan.{neighbourIn, Ready, Lent, Pair};
+ghost use Rattle.solver.specs.Branches.{ChildrenOf};
 ghost use Rattle.solver.specs.Choice.{ChoiceAt};
 ghost use Rattle.solver.specs.Mates.{nameOr, Mates};
 ghost use Rattle.assignment.specs.State.{Sized};
 ghost use Rattle.model.specs.Values.{Subproblem, recalled};
 ghost use Rattle.assignment.specs.Matching.{cell, outOf};
+ghost use Rattle.model.specs.Tree.{count};
 ghost use Rattle.model.specs.Graph.{neighbours};
 ghost use Rattle.model.specs.Limits.{vertexLimit, pairLimit};
 ghost use Rattle.model.specs.Order.{children};
+
+// The children of recorded vertex u: how many, and how many work numbers stand for each of them. What the gains of u with any v have in common.
+pub struct Children {
+    pub u: u8,
+    pub count: usize,
+    pub width: usize,
+}
+
+// Those of u, a vertex of the recorded tree.
+pub fn children_of(table: &[u8], recorded: &[u8], found: &[u8], plan: &Plan, u: u8) -> Children
+    requires { ⌜ Ready (now table) (now recorded) (now found) (now plan) ⌝ }
+    requires { ⌜ u < count (now recorded) ⌝ }
+    ensures { λ r. ⌜ (r .u ≡ u) × (ChildrenOf (now (recorded .entry)) (now (found .entry)) u (r .count) (r .width)) ⌝ }
+{
+    Children {
+        u: u,
+        count: child_count(plan, u),
+        width: width_of(found),
+    }
+}
 
 // The gains of u's i-th child with each neighbour of v, as row i of the table.
 fn gain_row(
@@ -40,18 +62,20 @@ fn gain_row(
     found: &[u8],
     plan: &Plan,
     work: &[i32],
-    u: u8,
+    of: Children,
     v: u8,
     i: usize,
 )
     requires { ⌜ length (now g) ≡ pairLimit ⌝ }
     requires { ⌜ Ready (now table) (now recorded) (now found) (now plan) ⌝ }
     requires { ⌜ Lent (now recorded) (now found) (now work) ⌝ }
-    requires { ⌜ Pair (now recorded) (now found) u v ⌝ }
-    requires { ⌜ i < length (children (now recorded) u) ⌝ }
-    ensures { λ _. ⌜ RowFilled (length (neighbours (now (found .entry)) v)) i (gainAt (now (table .entry)) (now (recorded .entry)) (now (found .entry)) (recalled (now (recorded .entry)) (now (found .entry)) (now (work .entry))) u v i) (now (g .entry)) (now (g .exit)) ⌝ }
+    requires { ⌜ Pair (now recorded) (now found) (of .u) v ⌝ }
+    requires { ⌜ ChildrenOf (now recorded) (now found) (of .u) (of .count) (of .width) ⌝ }
+    requires { ⌜ i < length (children (now recorded) (of .u)) ⌝ }
+    ensures { λ _. ⌜ RowFilled (length (neighbours (now (found .entry)) v)) i (gainAt (now (table .entry)) (now (recorded .entry)) (now (found .entry)) (recalled (now (recorded .entry)) (now (found .entry)) (now (work .entry))) (of .u) v i) (now (g .entry)) (now (g .exit)) ⌝ }
 {
-    let base = child_place(plan, u, i) * width_of(found);
+    let u = of.u;
+    let base = child_place(plan, u, i) * of.width;
     let label = child_edge(plan, u, i);
     let l = degree(plan, v);
     let mut j = 0;
@@ -71,19 +95,20 @@ pub fn gains(
     found: &[u8],
     plan: &Plan,
     work: &[i32],
-    u: u8,
+    of: Children,
     v: u8,
 )
     requires { ⌜ length (now g) ≡ pairLimit ⌝ }
     requires { ⌜ Ready (now table) (now recorded) (now found) (now plan) ⌝ }
     requires { ⌜ Lent (now recorded) (now found) (now work) ⌝ }
-    requires { ⌜ Pair (now recorded) (now found) u v ⌝ }
-    ensures { λ _. ⌜ Filled (length (children (now (recorded .entry)) u)) (length (neighbours (now (found .entry)) v)) (gainAt (now (table .entry)) (now (recorded .entry)) (now (found .entry)) (recalled (now (recorded .entry)) (now (found .entry)) (now (work .entry))) u v) (now (g .exit)) ⌝ }
+    requires { ⌜ Pair (now recorded) (now found) (of .u) v ⌝ }
+    requires { ⌜ ChildrenOf (now recorded) (now found) (of .u) (of .count) (of .width) ⌝ }
+    ensures { λ _. ⌜ Filled (length (children (now (recorded .entry)) (of .u))) (length (neighbours (now (found .entry)) v)) (gainAt (now (table .entry)) (now (recorded .entry)) (now (found .entry)) (recalled (now (recorded .entry)) (now (found .entry)) (now (work .entry))) (of .u) v) (now (g .exit)) ⌝ }
 {
-    let k = child_count(plan, u);
+    let k = of.count;
     let mut i = 0;
     while i < k {
-        gain_row(g, table, recorded, found, plan, work, u, v, i);
+        gain_row(g, table, recorded, found, plan, work, of, v, i);
         i += 1;
     }
 }
@@ -141,9 +166,10 @@ pub fn choice(
     requires { ⌜ length (now g) ≡ pairLimit ⌝ }
     ensures { λ r. ⌜ (ChoiceAt (now (table .entry)) (now (recorded .entry)) (now (found .entry)) (now (work .entry)) u v s r) × (length (now (g .exit)) ≡ pairLimit) ⌝ }
 {
-    let k = child_count(plan, u);
+    let of = children_of(table, recorded, found, plan, u);
+    let k = of.count;
     let l = degree(plan, v);
     let c = slot(plan, v, s);
-    gains(g, table, recorded, found, plan, work, u, v);
+    gains(g, table, recorded, found, plan, work, of, v);
     mates(counts, g, k, l, c, plan, v)
 }
