@@ -152,6 +152,8 @@ single-of {l} {b} {d} {e} {g} G = record {
         found = λ u. let w = G .found u in (w .0, out-no c g 0 b (λ p. n (sym p)) ∙ w .1);
       })))
       (same? c (b + 1));
+  less = ⊎-elim (λ u. let w = G .other u in omega (arith, G .most (w .0) (w .1), w .3)) (λ u. omega arith) (less? 0 e);
+  some = omega arith;
 }
   where
     taken : (c : ℕ) → c ≡ b + 1 → cond (eqb c (b + 1)) e d ≡ e

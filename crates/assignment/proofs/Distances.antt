@@ -11,7 +11,7 @@ use lib.ListN.{length, getD, set, replicate}
 use lib.Seq.{getD-set-same, getD-set-other}
 use borrow.Author.Tests.{eq-eqb, ne-eqb}
 use Rattle.foundations.specs.Tests.{same?}
-use Rattle.foundations.specs.Sums.{sum, sum-point}
+use Rattle.foundations.specs.Sums.{sum, sum-point, sum-most}
 use Rattle.foundations.specs.Changed.{Changed, changed-none, changed-more}
 use Rattle.model.specs.Limits.{degreeLimit}
 use Rattle.assignment.specs.Matching.{at, outOf, gainLimit}
@@ -158,11 +158,6 @@ module _ {k l r : ℕ} {g : ℕ → ℕ → ℕ} {y z own col dist from : List �
       }
 
 -- ---- the weight without a column
-
-sum-most : (n b : ℕ) (f : ℕ → ℕ) → ((i : ℕ) → i < n → f i ≤ b) → sum n f ≤ n * b
-unfolding sum
-sum-most zero b f h = omega arith
-sum-most (suc n) b f h = omega (arith, sum-most n b f (λ i l. h i (omega arith)), h n (omega arith))
 
 module _ {k l c r : ℕ} {g : ℕ → ℕ → ℕ} {y z own : List ℕ} (S : Sized k l g) (A : Solution k l g y z own) (c-some : 1 ≤ c) (hc : c ≤ l) (er : at own (c - 1) ≡ r) (lt : r < degreeLimit) where
   has : (r < k) × (at (A .m) r ≡ c - 1)

@@ -94,6 +94,8 @@ pub record Heaviest (k l : ℕ) (g : ℕ → ℕ → ℕ) (r : ℕ) : Type 0 whe
 -- of one row: the greatest weight is `rest` for the choice `out`, and `whole` for every other
 pub record SingleOf (l : ℕ) (g : ℕ → ℕ → ℕ) (out whole rest : ℕ) : Type 0 where
   pub each : (c : ℕ) → c ≤ l → Heaviest 1 l (outOf c g) (cond (eqb c out) rest whole)
+  pub less : rest ≤ whole
+  pub some : 1 ≤ out
 
 -- t has the greatest weight for each choice: at 0 that of all columns, at c that without column c - 1
 pub record WeightsOf (k l : ℕ) (g : ℕ → ℕ → ℕ) (t : List ℕ) : Type 0 where

@@ -56,6 +56,11 @@ unfolding sum
 sum-const zero c = omega arith
 sum-const (suc n) c = omega (arith, sum-const n c)
 
+pub sum-most : (n b : ℕ) (f : ℕ → ℕ) → ((i : ℕ) → i < n → f i ≤ b) → sum n f ≤ n * b
+unfolding sum
+sum-most zero b f h = omega arith
+sum-most (suc n) b f h = omega (arith, sum-most n b f (λ i l. h i (omega arith)), h n (omega arith))
+
 pub sum-times : (n c : ℕ) (f : ℕ → ℕ) → sum n (λ i. c * f i) ≡ c * sum n f
 unfolding sum
 sum-times zero c f = omega arith

@@ -9,7 +9,7 @@ use native.Mathlib.Nat.{add-zero, zero-add, zero-mod}
 use lib.ListN.{length, getD}
 use borrow.Author.Tests.{eq-eqb, ne-eqb}
 use Rattle.foundations.specs.Members.{mem-ne, getD-mem}
-use Rattle.foundations.specs.Sums.{sum, sum-zero, sum-ext, sum-first, sum-append}
+use Rattle.foundations.specs.Sums.{sum, sum-zero, sum-ext, sum-first, sum-append, sum-most}
 use Rattle.model.specs.Limits.{degreeLimit, pairLimit}
 use Rattle.model.specs.Graph.{neighbours}
 use Rattle.model.specs.Order.{offset, width, subproblems, choices, uAt, vAt, sAt}
@@ -20,7 +20,6 @@ use Rattle.plan.specs.Numbers.{ready-accepted, number-few}
 use Rattle.plan.specs.Pairs.{children-few, degree-few}
 use Rattle.assignment.specs.Loops.{far}
 use Rattle.solver.specs.FillLaws.{PairRun}
-use Rattle.solver.specs.Heaviest.{sum-most}
 use Rattle.solver.specs.Bound.{pairMost, mostAt, begins, searchMost, begins-at}
 
 -- of the pairs that begin among the first n subproblems

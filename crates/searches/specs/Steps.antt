@@ -18,7 +18,7 @@ use Rattle.plan.specs.Numbers.{Located, ready-sound, width-some, offset-width, 
 use Rattle.plan.specs.Pairs.{children-few, degree-few}
 use Rattle.assignment.specs.Loops.{far}
 use Rattle.assignment.specs.Matching.{at}
-use Rattle.assignment.specs.Counts.{searches, Searches, none-countable}
+use Rattle.assignment.specs.Counts.{searches, Searches, added, none-countable}
 use Rattle.solver.specs.FillLaws.{RowRun, PairRun, row-run, pair-run}
 use Rattle.solver.specs.Bound.{pairMost, searchMost}
 use Rattle.searches.specs.declared.pairs.Tally.{Tally}
@@ -66,14 +66,15 @@ module _ {table r f : List ℕ} {plan : List (List ℕ)} (N : Ready table r f pl
     pub pair-counts : (counts : List ℕ) → Searches (searchMost r f from (length (neighbours f v) + 1)) (replicate (pairLimit + 1) 0) counts → (searches counts ≤ pairMost r f u v) × PairCounts counts
     pair-counts counts S =
         let Z = none-countable far (omega arith) in
-        let few : searches counts ≤ pairMost r f u v = omega (arith, S .few, Z .limit, most-whole N P) in (
+        let A = added S in
+        let few : searches counts ≤ pairMost r f u v = omega (arith, A .few, Z .limit, most-whole N P) in (
           few,
           record {
             each = λ p h.
                 let d : p / degreeLimit * degreeLimit + p % degreeLimit ≡ p = div-add-mod' p degreeLimit in
                 let a : p / degreeLimit < degreeLimit = omega arith in
                 let b : p % degreeLimit < degreeLimit = omega arith in
-                subst (λ (x : ℕ). at counts x ≤ searches counts) d (omega (arith, S .once (p / degreeLimit) (p % degreeLimit) a b, Z .each (p / degreeLimit) (p % degreeLimit) a b, Z .limit));
+                subst (λ (x : ℕ). at counts x ≤ searches counts) d (omega (arith, A .once (p / degreeLimit) (p % degreeLimit) a b, Z .each (p / degreeLimit) (p % degreeLimit) a b, Z .limit));
             low = omega (arith, few, children-few N (P .pair), degree-few N (P .pair));
           },
         )

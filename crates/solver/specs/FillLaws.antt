@@ -13,7 +13,7 @@ use lib.Dec.{T, eqb}
 use lib.IntN.{ℤ}
 use Rattle.foundations.specs.Members.{mem, mem-there, mem-ne, getD-mem, del, del-mem}
 use Rattle.model.specs.Limits.{forbidden, widthLimit, degreeLimit}
-use Rattle.model.specs.Weights.{isForbidden, weighed, stored, plusW}
+use Rattle.model.specs.Weights.{isForbidden, inRange, weighed, stored, plusW}
 use Rattle.model.specs.Tree.{count}
 use Rattle.model.specs.Graph.{neighbours}
 use Rattle.model.specs.Order.{children, postorder, offset, width, choices, index, subproblems, uAt, vAt, sAt}
@@ -23,14 +23,14 @@ use Rattle.trees.specs.Neighbours.{few-neighbours, once-neighbours, mem-adjacen
 use Rattle.trees.specs.Rooted.{no-self, child-of, once-children}
 use Rattle.trees.specs.Positions.{sub-at, index-child}
 use Rattle.assignment.specs.Matching.{cell}
-use Rattle.assignment.specs.State.{Sized}
 use Rattle.subtrees.specs.Matching.{best-ext}
 use Rattle.subtrees.specs.Filling.{length-fill, fill-more, fill-keeps, solve-forbidden, solve-stored}
 use Rattle.plan.specs.Plan.{degreeIn, offsetIn, orderIn, Ready, Lent, Pair}
 use Rattle.plan.specs.Numbers.{Located, ready-accepted, width-some, width-few, number-u, offsets-are, rest-in, number-v, number-s}
 use Rattle.plan.specs.Pairs.{VertexPair, gainAt, Filled, weighed-none, weighed-number, children-few, degree-few}
 use Rattle.solver.specs.Exact.{left-of, best-none}
-use Rattle.solver.specs.Heaviest.{Table, HeaviestMatching, Stands, heaviest-best}
+use Rattle.solver.specs.Heaviest.{HeaviestMatching, Stands, small-heaviest, heaviest-best}
+use Rattle.solver.specs.Numbers.{written, fill-written, PairTable, Numbers, table-at}
 
 -- count subproblems from number `from` on, all of u; `rest` stands at the first
 pub record RowRun (r f : List ℕ) (u rest from n : ℕ) : Type 0 where
@@ -59,30 +59,6 @@ choice-left f v c out h = left-of (neighbours f v) (getD (choices f v) c 0) c (o
     (λ z j hj e. mem-ne (getD (neighbours f v) j 0) v (neighbours f v) out (getD-mem (neighbours f v) j hj) (e ∙ ap (λ (x : ℕ). getD (choices f v) x 0) z))
     (λ j e. sym (ap (λ (x : ℕ). getD (choices f v) x 0) (e ∙ add-one j)))
 
--- ---- the same number repeated
-
-unfoldable pub repeated : List ℤ → ℕ → ℕ → ℤ → List ℤ
-repeated work k zero x = work
-repeated work k (suc c) x = set (repeated work k c x) (k + c) x
-
-pub repeated-none : (work : List ℤ) (k : ℕ) (x : ℤ) → work ≡ repeated work k 0 x
-unfolding repeated
-repeated-none work k x = refl
-
-pub repeated-next : (work w : List ℤ) (k c : ℕ) (x : ℤ) → w ≡ repeated work k c x → set w (k + c) x ≡ repeated work k (c + 1) x
-unfolding repeated
-repeated-next work w k c x e = rw (add-one c, e)
-
-pub length-repeated : (work : List ℤ) (k c : ℕ) (x : ℤ) → length (repeated work k c x) ≡ length work
-unfolding repeated
-length-repeated work k zero x = refl
-length-repeated work k (suc c) x = length-set (repeated work k c x) (k + c) x ∙ length-repeated work k c x
-
-fill-repeated : (table r f : List ℕ) (work : List ℤ) (k n : ℕ) (x : ℤ) → ((i : ℕ) → i < n → (w : List ℤ) → solve table r f w (k + i) ≡ x) → repeated work k n x ≡ fill table r f work k n
-unfolding repeated fill
-fill-repeated table r f work k zero x h = refl
-fill-repeated table r f work k (suc n) x h = rw (fill-repeated table r f work k n x (λ i l. h i (omega arith)), h n (omega arith) (fill table r f work k n))
-
 module _ {table r f : List ℕ} {plan : List (List ℕ)} (N : Ready table r f plan) where
   -- ---- a pair's table of gains stands for its choice c of s
 
@@ -108,13 +84,13 @@ module _ {table r f : List ℕ} {plan : List (List ℕ)} (N : Ready table r f pl
     run-solve i h work = rw (R .whose i h, R .where-v i h, R .which-s i h)
 
     -- a forbidden pair
-    pub run-forbidden : (w : ℤ) → VertexPair table r f u v w → isForbidden w ≡ true → (work : List ℤ) → repeated work from n forbidden ≡ fill table r f work from n
-    run-forbidden w P e work = fill-repeated table r f work from n forbidden (λ i h x. run-solve i h x ∙ solve-forbidden table r f x u v _ (P .is ∙ weighed-none w e))
+    pub run-forbidden : (w : ℤ) → VertexPair table r f u v w → isForbidden w ≡ true → (work : List ℤ) → written work from n (λ i. forbidden) ≡ fill table r f work from n
+    run-forbidden w P e work = fill-written table r f work from n (λ i. forbidden) (λ i h. let x = fill table r f work from i in sym (run-solve i h x ∙ solve-forbidden table r f x u v _ (P .is ∙ weighed-none w e)))
 
     -- no children
-    pub run-leaf : (w x : ℤ) → VertexPair table r f u v w → isForbidden w ≡ false → length (children r u) ≡ 0 → x ≡ stored w 0 → (work : List ℤ) → repeated work from n x ≡ fill table r f work from n
+    pub run-leaf : (w x : ℤ) → VertexPair table r f u v w → isForbidden w ≡ false → length (children r u) ≡ 0 → x ≡ stored w 0 → (work : List ℤ) → written work from n (λ i. x) ≡ fill table r f work from n
     run-leaf w x P e none d work =
-        fill-repeated table r f work from n x (λ i h y. run-solve i h y ∙ solve-stored table r f y u v _ w 0 (P .is ∙ weighed-number w e) (best-none _ _ _ none) ∙ sym d)
+        fill-written table r f work from n (λ i. x) (λ i h. let y = fill table r f work from i in sym (run-solve i h y ∙ solve-stored table r f y u v _ w 0 (P .is ∙ weighed-number w e) (best-none _ _ _ none) ∙ sym d))
 
     -- the numbers behind the branches of u stay while u's are filled
     kept : (work : List ℤ) (i : ℕ) → i < n → (c x : ℕ) → T (mem c (children r u)) → T (mem x (neighbours f v)) → recalled r f (fill table r f work from i) c x v ≡ recalled r f work c x v
@@ -131,29 +107,24 @@ module _ {table r f : List ℕ} {plan : List (List ℕ)} (N : Ready table r f pl
         let low : index r f c x v < from = subst (λ (y : ℕ). index r f c x v < y) (S .here) (index-child r f er tr ef tf c x v (uAt r f from) (vAt f from) (sAt f from) (k .0) (k .1) (k .2 ∙ sym first) (a .0) (mem-there v x (neighbours f x) (adjacent-mem f ef x v (adjacent-back f v x (a .1))))) in
         ap weighed (fill-keeps table r f work from i (index r f c x v) (inl low))
 
-    -- the table of gains
-    pub run-table : (work : List ℤ) (g : List ℕ) (k l : ℕ) → k ≡ length (children r u) → l ≡ degreeIn plan v → Filled (length (children r u)) (length (neighbours f v)) (gainAt table r f (recalled r f work) u v) g → (i : ℕ) → i < n → Table k l (q + i) (cell g)
-    run-table work g k l ek el D i h =
-        let b : l ≡ length (neighbours f v) = el ∙ N .planned .found v (R .pair .v-low) .degree in
-        let d = R .choice i h in
-        record {
-          rows = omega (arith, ek, children-few N (R .pair));
-          columns = omega (arith, b, degree-few N (R .pair));
-          choice = omega arith;
-          small = λ x y hx hy. D .get x y (omega arith) (omega arith) .1;
-        }
-
-    pub run-sized : (work : List ℤ) (g : List ℕ) (k l : ℕ) → k ≡ length (children r u) → l ≡ degreeIn plan v → Filled (length (children r u)) (length (neighbours f v)) (gainAt table r f (recalled r f work) u v) g → Sized k l (cell g)
-    run-sized work g k l ek el D =
+    -- the table of gains, for a pair of weight w
+    pub run-table : (work : List ℤ) (g : List ℕ) (k l : ℕ) → k ≡ length (children r u) → l ≡ degreeIn plan v → Filled (length (children r u)) (length (neighbours f v)) (gainAt table r f (recalled r f work) u v) g → (w : ℤ) → inRange w ≡ true → Lent r f work → PairTable k l (cell g) w q from n work
+    run-table work g k l ek el D w e L =
         let b : l ≡ length (neighbours f v) = el ∙ N .planned .found v (R .pair .v-low) .degree in
         record {
-          rows = omega (arith, ek, children-few N (R .pair));
-          columns = omega (arith, b, degree-few N (R .pair));
-          gains = λ x y hx hy. let s = D .get x y (omega arith) (omega arith) .1 in omega arith;
+          table = record {
+            rows = omega (arith, ek, children-few N (R .pair));
+            columns = omega (arith, b, degree-few N (R .pair));
+            choice = omega arith;
+            small = λ x y hx hy. D .get x y (omega arith) (omega arith) .1;
+          };
+          number = e;
+          enough = omega (arith, R .enough, L .enough);
+          choice = λ i h. let d = R .choice i h in omega arith;
         }
 
     -- the number of the i-th
-    pub run-number : (work : List ℤ) (g : List ℕ) (k l : ℕ) → k ≡ length (children r u) → l ≡ degreeIn plan v → Filled (length (children r u)) (length (neighbours f v)) (gainAt table r f (recalled r f work) u v) g
+    run-number : (work : List ℤ) (g : List ℕ) (k l : ℕ) → k ≡ length (children r u) → l ≡ degreeIn plan v → Filled (length (children r u)) (length (neighbours f v)) (gainAt table r f (recalled r f work) u v) g
         → (w : ℤ) → VertexPair table r f u v w → isForbidden w ≡ false → (i : ℕ) → i < n → (total : ℕ) (x : ℤ) → HeaviestMatching k l (q + i) (cell g) total → x ≡ stored w total → x ≡ solve table r f (fill table r f work from i) (from + i)
     run-number work g k l ek el D w P e i h total x H d =
         d
@@ -167,6 +138,12 @@ module _ {table r f : List ℕ} {plan : List (List ℕ)} (N : Ready table r f pl
 
         stands : Stands k l (q + i) (branch table r f (recalled r f work) u v) s (children r u) (neighbours f v) (cell g)
         stands = choice-stands (R .pair) work g k l (q + i) ek el D (R .choice i h)
+
+    -- the numbers of a table are those of filling
+    pub run-numbers : (work : List ℤ) (g : List ℕ) (k l : ℕ) → k ≡ length (children r u) → l ≡ degreeIn plan v → Filled (length (children r u)) (length (neighbours f v)) (gainAt table r f (recalled r f work) u v) g
+        → (w : ℤ) → VertexPair table r f u v w → isForbidden w ≡ false → PairTable k l (cell g) w q from n work → {work′ : List ℤ} → Numbers k l (cell g) w q from n work work′ → work′ ≡ fill table r f work from n
+    run-numbers work g k l ek el D w P e A M = M .is ∙ fill-written table r f work from n (λ i. stored w (M .total i))
+        (λ i h. run-number work g k l ek el D w P e i h (M .total i) (stored w (M .total i)) (small-heaviest (table-at A i h) (M .heaviest i h)) refl)
 
   -- ---- the vertex of one of a run of u
 

@@ -9,14 +9,14 @@ use lib.Dec.{eqb}
 use lib.IntN.{pos}
 use borrow.Author.Tests.{lt-ltb, le-ltb}
 use Rattle.foundations.specs.Tests.{same?, less?}
-use Rattle.foundations.specs.Sums.{sum}
+use Rattle.foundations.specs.Sums.{sum-most}
 use Rattle.foundations.specs.Members.{Distinct, del}
 use Rattle.model.specs.Limits.{degreeLimit}
 use Rattle.model.specs.Weights.{Weight, some}
 use Rattle.model.specs.Values.{best}
 use Rattle.integers.specs.Results.{gainMost}
 use Rattle.assignment.specs.Matching.{at, outOf, out-yes, out-no, gained, weight}
-use Rattle.assignment.specs.State.{Sized, Heaviest, WeightsOf}
+use Rattle.assignment.specs.State.{Sized, Heaviest}
 use Rattle.plan.specs.Pairs.{upW}
 use Rattle.solver.specs.Exact.{branchGain, Gains, solved-best}
 
@@ -60,11 +60,6 @@ module _ {k l c : ℕ} {w : ℕ → ℕ → Weight} {s : ℕ} {cs A : List ℕ} 
 
 -- ---- how much a matching can weigh
 
-pub sum-most : (k B : ℕ) (f : ℕ → ℕ) → ((i : ℕ) → i < k → f i ≤ B) → sum k f ≤ k * B
-unfolding sum
-sum-most zero B f h = omega arith
-sum-most (suc k) B f h = omega (arith, sum-most k B f (λ i l. h i (omega arith)), h k (omega arith))
-
 weight-most : (k l B : ℕ) (g : ℕ → ℕ → ℕ) (m : ℕ → ℕ) → ((i j : ℕ) → i < k → j < l → g i j ≤ B) → weight k l g m ≤ k * B
 unfolding weight gained
 weight-most k l B g m h = sum-most k B (gained l g m) (λ i hi. ⊎-elim (λ lt. rw (lt-ltb (m i) l lt) (h i (m i) hi lt)) (λ le. rw (le-ltb (m i) l le) (omega arith)) (less? (m i) l))
@@ -78,11 +73,8 @@ out-small {k} {l} {c} {g} T i j hi hj = ⊎-elim
 pub table-sized : {k l c : ℕ} {g : ℕ → ℕ → ℕ} → Table k l c g → Sized k l g
 table-sized T = record { rows = T .rows; columns = T .columns; gains = λ i j hi hj. let a = T .small i j hi hj in omega arith }
 
--- ---- from the weights of all choices
-
-pub weights-heaviest : {k l c : ℕ} {g : ℕ → ℕ → ℕ} {t : List ℕ} → Table k l c g → WeightsOf k l g t → HeaviestMatching k l c g (at t c)
-weights-heaviest {k} {l} {c} {g} T W =
-    let H = W .each c (T .choice) in
+pub small-heaviest : {k l c w : ℕ} {g : ℕ → ℕ → ℕ} → Table k l c g → Heaviest k l (outOf c g) w → HeaviestMatching k l c g w
+small-heaviest {k} {l} {c} {w} {g} T H =
     let rows : k ≤ degreeLimit = T .rows in
     let b : weight k l (outOf c g) (H .m) ≤ k * gainMost = weight-most k l gainMost (outOf c g) (H .m) (λ i j hi hj. out-small T i j hi hj) in
     record { heaviest = H; small = omega (arith, H .total, H .dual .equal) }

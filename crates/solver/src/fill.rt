@@ -4,6 +4,7 @@ use crate::subproblem::Children;
 use crate::subproblem::children_of;
 use crate::subproblem::gains;
 use assignment::Counts;
+use assignment::weights::row_weights;
 use assignment::weights::weights;
 use formats::tree::vertex_count;
 use integers::lesser;
@@ -23,15 +24,17 @@ ghost use Rattle.model.specs.Limits.{pairLimit};
 ghost use Rattle.model.specs.Order.{subproblems};
 ghost use Rattle.model.specs.Values.{fill};
 ghost use Rattle.plan.specs.Plan.{Ready, Lent};
-ghost use Rattle.assignment.specs.Counts.{Searches, Countable};
+ghost use Rattle.assignment.specs.Counts.{Search, Searches, Countable};
+ghost use Rattle.assignment.specs.Matching.{cell};
 ghost use Rattle.solver.specs.Branches.{ChildrenOf};
-ghost use Rattle.solver.specs.FillLaws.{repeated, RowRun, PairRun};
+ghost use Rattle.solver.specs.FillLaws.{RowRun, PairRun};
+ghost use Rattle.solver.specs.Numbers.{written, PairTable, Numbers};
 ghost use Rattle.solver.specs.Bound.{pairMost, searchMost};
 
 // The same number count times.
 fn repeat(work: &mut [i32], x: i32, from: usize, count: usize)
     requires { ⌜ from + count ≤ length (now work) ⌝ }
-    ensures { λ _. ⌜ now (work .exit) ≡ repeated (now (work .entry)) from count x ⌝ }
+    ensures { λ _. ⌜ now (work .exit) ≡ written (now (work .entry)) from count (λ i. x) ⌝ }
 {
     let mut i = 0;
     while i < count {
@@ -46,6 +49,45 @@ struct Run {
     first: usize,
     from: usize,
     count: usize,
+}
+
+// The numbers of a run of a pair with one child, whose gains are in row 0: the same for every choice but one.
+fn fill_single(counts: &mut Counts, g: &Gains, l: usize, w: i32, work: &mut [i32], run: Run)
+    requires { ⌜ PairTable 1 l (cell (now g)) w (run .first) (run .from) (run .count) (now work) ⌝ }
+    requires { ⌜ Countable 1 (now counts) ⌝ }
+    ensures { λ _. ⌜ (Numbers 1 l (cell (now (g .entry))) w (run .first) (run .from) (run .count) (now (work .entry)) (now (work .exit))) × (Search (now (counts .entry)) (now (counts .exit))) ⌝ }
+{
+    let r = row_weights(counts, g, l);
+    let from = run.from;
+    let count = run.count;
+    repeat(work, integers::stored_value(w, r.whole), from, count);
+    if r.out < run.first {
+        return;
+    }
+    let i = r.out - run.first;
+    if i < count {
+        let x = integers::stored_value(w, r.rest);
+        work[from + i] = x;
+    }
+}
+
+// The numbers of a run of a pair with any number of children.
+fn fill_table(counts: &mut Counts, g: &Gains, k: usize, l: usize, w: i32, work: &mut [i32], run: Run)
+    requires { ⌜ PairTable k l (cell (now g)) w (run .first) (run .from) (run .count) (now work) ⌝ }
+    requires { ⌜ Countable (k + l) (now counts) ⌝ }
+    ensures { λ _. ⌜ (Numbers k l (cell (now (g .entry))) w (run .first) (run .from) (run .count) (now (work .entry)) (now (work .exit))) × (Searches (k + l) (now (counts .entry)) (now (counts .exit))) ⌝ }
+{
+    let first = run.first;
+    let from = run.from;
+    let count = run.count;
+    let mut t = [0u64; Limits::PLACES + 1];
+    weights(&mut t, counts, g, k, l);
+    let mut i = 0;
+    while i < count {
+        let x = integers::stored_value(w, t[first + i]);
+        work[from + i] = x;
+        i += 1;
+    }
 }
 
 // Of the subproblems of u and v a run that begins with the first-th choice of s, by at most one search for each child of u and one for each neighbour of
@@ -73,26 +115,20 @@ fn fill_pair(
     let w = vertex_pair(table, plan, of.u, v);
     let k = of.count;
     let l = degree(plan, v);
-    let first = run.first;
-    let from = run.from;
-    let count = run.count;
     if integers::is_forbidden(w) {
-        repeat(work, Limits::FORBIDDEN, from, count);
+        repeat(work, Limits::FORBIDDEN, run.from, run.count);
         return;
     }
     if k == 0 {
-        repeat(work, integers::stored_value(w, 0), from, count);
+        repeat(work, integers::stored_value(w, 0), run.from, run.count);
         return;
     }
     gains(g, table, recorded, found, plan, work, of, v);
-    let mut t = [0u64; Limits::PLACES + 1];
-    weights(&mut t, counts, g, k, l);
-    let mut i = 0;
-    while i < count {
-        let x = integers::stored_value(w, t[first + i]);
-        work[from + i] = x;
-        i += 1;
+    if k == 1 {
+        fill_single(counts, g, l, w, work, run);
+        return;
     }
+    fill_table(counts, g, k, l, w, work, run);
 }
 
 // Of the subproblems of u a run: from the pair that it begins within to the one that it ends within.

@@ -135,6 +135,7 @@ fn mates(counts: &mut Counts, g: &Gains, k: usize, l: usize, c: usize, plan: &Pl
     let mut y = [0u64; Limits::PLACES];
     let mut z = [0u64; Limits::PLACES];
     let mut m = [FREE; Limits::PLACES];
+    *counts = [0u64; Limits::PAIRS + 1];
     assignment::solve_without(counts, g, k, l, c, &mut y, &mut z, &mut m);
     let mut r = [Limits::NONE; Limits::PLACES];
     let mut i = 0;

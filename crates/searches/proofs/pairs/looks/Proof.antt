@@ -3,11 +3,10 @@ use mathlib.Core.Path.{_≡_, refl, sym, ap, _∙_}
 use Prim.Native.Nat.{ℕ, _+_, _*_, _-_, _≤_, _<_}
 use native.Mathlib.Omega.{arith}
 use borrow.Author.Needs.{needs}
-use Rattle.foundations.specs.Sums.{sum, sum-more}
+use Rattle.foundations.specs.Sums.{sum, sum-more, sum-most}
 use Rattle.model.specs.Limits.{degreeLimit, pairLimit}
 use Rattle.assignment.specs.Matching.{at}
 use Rattle.assignment.specs.Counts.{searches}
-use Rattle.solver.specs.Heaviest.{sum-most}
 use Rattle.searches.proofs.pairs.looks.Statement.{statement}
 use Rattle.searches.proofs.pairs.looks.Tie as tie
 

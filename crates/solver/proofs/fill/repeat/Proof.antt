@@ -1,5 +1,5 @@
 -- `repeat` meets its contract. Assumes nothing.
-use Rattle.solver.specs.FillLaws.{repeated, repeated-none, repeated-next, length-repeated}
+use Rattle.solver.specs.Numbers.{written, written-none, written-next, length-written}
 use Prim.Native.Nat.{_≤_, _-_}
 use mathlib.Core.Path.{_≡_, refl, ap, _∙_}
 use lib.ListN.{length}
@@ -12,13 +12,13 @@ use Rattle.solver.proofs.fill.repeat.Statement.{statement}
 use Rattle.solver.proofs.fill.repeat.Tie as tie
 
 abbrev Inv-loop : tie.InvT-loop
-Inv-loop work₀ x from count i₀ work i = (i ≤ count) × (length work ≡ length work₀) × (work ≡ repeated work₀ from i (toZ w32 x))
+Inv-loop work₀ x from count i₀ work i = (i ≤ count) × (length work ≡ length work₀) × (work ≡ written work₀ from i (λ j. toZ w32 x))
 
 abbrev μ-loop : tie.MeasureT-loop
 μ-loop work₀ x from count i₀ work i = count - i
 
 loop-holds : tie.Need-loop-holds Inv-loop μ-loop
-loop-holds c = (omega arith, refl, repeated-none _ _ _)
+loop-holds c = (omega arith, refl, written-none _ _ _)
 
 mul-x : tie.Need-mul-x Inv-loop μ-loop
 mul-x c = search needs
@@ -29,8 +29,8 @@ slice-set-from-x c = search needs
 loop-again : tie.Need-loop-again Inv-loop μ-loop
 loop-again c =
     let l = c .before in
-    let e = repeated-next _ _ _ _ _ (l .loop .inv .2) in
-    (omega arith, ap length e ∙ length-repeated _ _ _ _, e)
+    let e = written-next _ _ _ _ (λ j. _) _ (l .loop .inv .2) refl in
+    (omega arith, ap length e ∙ length-written _ _ _ _, e)
 
 same-length : tie.Need-same-length Inv-loop μ-loop
 same-length c = c .before .loop .inv .1
