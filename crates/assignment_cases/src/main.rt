@@ -217,8 +217,7 @@ fn compare(kind: u64, seed: u64, k: usize, l: usize, n: Count) -> Count
     let mut y = [5u64; Limits::PLACES];
     let mut z = [6u64; Limits::PLACES];
     let mut m = [7u8; Limits::PLACES];
-    let mut spent = [9u64; Limits::PAIRS + 1];
-    assignment::solve(&mut spent, &g, k, l, &mut y, &mut z, &mut m);
+    assignment::solve(&g, k, l, &mut y, &mut z, &mut m);
     let mut t = [8u64; Limits::PLACES + 1];
     let mut counts = [0u64; Limits::PAIRS + 1];
     weights(&mut t, &mut counts, &g, k, l);

@@ -16,7 +16,6 @@ pub extern "C" fn assignment_total(g: &Gains, k: usize, l: usize) -> u64
     let mut y = [0u64; Limits::PLACES];
     let mut z = [0u64; Limits::PLACES];
     let mut m = [FREE; Limits::PLACES];
-    let mut counts = [0u64; Limits::PAIRS + 1];
-    assignment::solve(&mut counts, g, k, l, &mut y, &mut z, &mut m);
+    assignment::solve(g, k, l, &mut y, &mut z, &mut m);
     assignment::total(k, l, &y, &z)
 }
