@@ -5,8 +5,8 @@ use model::Gains;
 use model::Limits;
 use model::WideRow;
 use plan::Plan;
-use solver::subproblem::children_of;
 use solver::subproblem::gains;
+use solver::subproblem::shared_of;
 ghost use mathlib.Core.Path.{_≡_};
 ghost use lib.ListN.{length};
 ghost use Rattle.model.specs.Limits.{pairLimit};
@@ -51,7 +51,7 @@ pub fn pair_gains(
     if integers::is_forbidden(w) {
         return g;
     }
-    let of = children_of(table, recorded, found, plan, u);
+    let of = shared_of(table, recorded, found, plan, u);
     gains(&mut g, table, recorded, found, plan, work, of, v);
     g
 }

@@ -79,6 +79,10 @@ pub record TablePassed (table : List ℕ) : Type 0 where
   pub vertex-ok : (i j : ℕ) → i < vertexLabels table → j < vertexLabels table → weightOk (int32At table (column (vertexRow table i) j)) ≡ true
   pub edge-ok : (i j : ℕ) → i < edgeLabels table → j < edgeLabels table → weightOk (int32At table (column (edgeRow table i) j)) ≡ true
 
+-- the weights of the vertex rows stand in it
+pub row-inside : {table : List ℕ} → TableSized table → (i j : ℕ) → i < vertexLabels table → j < vertexLabels table → column (vertexRow table i) (j + 1) ≤ length table
+row-inside {table} S i j hi hj = let e = row-end (vertexBlock table) i hi in let l = S .long in omega arith
+
 pub sized-says : (table : List ℕ) → tableSized table ≡ true → TableSized table
 unfolding tableSized
 sized-says table h =

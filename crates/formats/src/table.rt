@@ -139,7 +139,7 @@ fn entry_ok(table: &[u8], row: usize, j: u8) -> bool
     requires { do ⌜ column row (j + 1) ≤ (← ⟦table.len()⟧) ⌝ }
     ensures { λ r. ⌜ r ≡ weightOk (int32At (now (table .entry)) (column row j)) ⌝ }
 {
-    integers::weight_ok(integers::int32_at(table, row + 2 + 4 * (j as usize)))
+    integers::weight_ok(weight_in_row(table, row, j))
 }
 
 // So may the k weights of the row.
@@ -201,6 +201,14 @@ pub fn table_item(table: &[u8]) -> u8
     0
 }
 
+// The weight in column j of the row at `row`.
+pub fn weight_in_row(table: &[u8], row: usize, j: u8) -> i32
+    requires { do ⌜ column row (j + 1) ≤ (← ⟦table.len()⟧) ⌝ }
+    ensures { λ r. ⌜ r ≡ int32At (now (table .entry)) (column row j) ⌝ }
+{
+    integers::int32_at(table, row + 2 + 4 * (j as usize))
+}
+
 // The weight in column j of row i of the block.
 fn weight_at(table: &[u8], block: Block, i: u8, j: u8) -> i32
     requires { ⌜ BlockIn (now table) block ⌝ }
@@ -208,7 +216,16 @@ fn weight_at(table: &[u8], block: Block, i: u8, j: u8) -> i32
     requires { ⌜ j < block .rows ⌝ }
     ensures { λ r. ⌜ r ≡ int32At (now (table .entry)) (column (rowStart block i) j) ⌝ }
 {
-    integers::int32_at(table, row_at(block, i) + 2 + 4 * (j as usize))
+    weight_in_row(table, row_at(block, i), j)
+}
+
+// Where the row of the recorded vertex label i begins.
+pub fn vertex_row_at(table: &[u8], i: u8) -> usize
+    requires { ⌜ TableSized (now table) ⌝ }
+    requires { ⌜ i < vertexLabels (now table) ⌝ }
+    ensures { λ r. ⌜ r ≡ vertexRow (now (table .entry)) i ⌝ }
+{
+    row_at(vertex_block(table), i)
 }
 
 // The weight of the recorded vertex label i and the found one j.
@@ -218,7 +235,7 @@ pub fn vertex_weight_at(table: &[u8], i: u8, j: u8) -> i32
     requires { ⌜ j < vertexLabels (now table) ⌝ }
     ensures { λ r. ⌜ r ≡ int32At (now (table .entry)) (column (vertexRow (now (table .entry)) i) j) ⌝ }
 {
-    weight_at(table, vertex_block(table), i, j)
+    weight_in_row(table, vertex_row_at(table, i), j)
 }
 
 // The weight of the recorded edge label i and the found one j.

@@ -30,7 +30,7 @@ use Rattle.trees.specs.Directions.{labelSeen, waySeen, EdgeSeen, label-seen, ag
 use Rattle.trees.specs.Neighbours.{Adjacent, mem-adjacent, adjacent-mem, adjacent-back, few-neighbours}
 use Rattle.trees.specs.Rooted.{child-of, up-edge}
 use Rattle.trees.specs.Positions.{index-low, position-low}
-use Rattle.formats.specs.Table.{TablePassed}
+use Rattle.formats.specs.Table.{TablePassed, row-inside}
 use Rattle.integers.specs.Results.{gainMost, Gain}
 use Rattle.plan.specs.Plan.{recordedVertices, foundVertices, labelIn, serialIn, VertexIn, childCountIn, childEdgeIn, childPlaceIn, degreeIn, neighbourEdgeIn, behindIn, Ready, Pair}
 use Rattle.plan.specs.Numbers.{ready-accepted, ready-sound, ready-recorded}
@@ -52,11 +52,52 @@ pub record Weighable (table : List ℕ) (plan : List (List ℕ)) (u v : ℕ) : T
   pub ready : Ready table r f plan
   pub pair : Pair r f u v
 
+-- there are such inputs, with such a recorded vertex
+pub record Recorded (table : List ℕ) (plan : List (List ℕ)) (u : ℕ) : Type 0 where
+  pub r : List ℕ
+  pub f : List ℕ
+  pub ready : Ready table r f plan
+  pub u-low : u < count r
+
+-- where the weights of u's label begin, and u's serial
+pub record RowOf (table : List ℕ) (plan : List (List ℕ)) (u start serial : ℕ) : Type 0 where
+  pub begins : start ≡ vertexRow table (labelIn plan recordedVertices u)
+  pub own : serial ≡ serialIn plan recordedVertices u
+
+-- there is such a pair, of which this is the row
+pub record RowWeighable (table : List ℕ) (plan : List (List ℕ)) (start serial v : ℕ) : Type 0 where
+  pub u : ℕ
+  pub pair : Weighable table plan u v
+  pub row : RowOf table plan u start serial
+
+-- w is the weight of each pair with v of which this is the row
+pub record RowWeighs (table : List ℕ) (plan : List (List ℕ)) (start serial v : ℕ) (w : ℤ) : Type 0 where
+  pub is : (u : ℕ) → RowOf table plan u start serial → PairWeighs table plan u v w
+
+pub recorded : {table r f : List ℕ} {plan : List (List ℕ)} {u : ℕ} → Ready table r f plan → u < count r → Recorded table plan u
+recorded N a = record { r = _; f = _; ready = N; u-low = a }
+
+pub weighable-recorded : {table : List ℕ} {plan : List (List ℕ)} {u v : ℕ} → Weighable table plan u v → Recorded table plan u
+weighable-recorded W = recorded (W .ready) (W .pair .u-low)
+
+pub row-weighable : {table : List ℕ} {plan : List (List ℕ)} {u v start serial : ℕ} → Weighable table plan u v → RowOf table plan u start serial → RowWeighable table plan start serial v
+row-weighable W R = record { u = _; pair = W; row = R }
+
 pub weighable : {table r f : List ℕ} {plan : List (List ℕ)} {u v : ℕ} → Ready table r f plan → u < count r → v < count f → Weighable table plan u v
 weighable N a b = record { r = _; f = _; ready = N; pair = record { u-low = a; v-low = b } }
 
 pub pair-weighs : {table r f : List ℕ} {plan : List (List ℕ)} {u v : ℕ} {w : ℤ} → Ready table r f plan → u < count r → v < count f → PairWeighs table plan u v w → VertexPair table r f u v w
 pair-weighs N a b P = P .is _ _ N (record { u-low = a; v-low = b })
+
+-- what the plan says of a recorded vertex
+pub label-recorded : {table : List ℕ} {plan : List (List ℕ)} {u : ℕ} → Recorded table plan u → labelIn plan recordedVertices u < vertexLabels table
+label-recorded R = rw (R .ready .planned .recorded-vertex _ (R .u-low) .label) (vertex-known (R .r) _ _ _ (ready-accepted (R .ready) .recorded) (R .u-low))
+
+pub low-recorded : {table : List ℕ} {plan : List (List ℕ)} {u : ℕ} → Recorded table plan u → u < vertexLimit
+low-recorded R =
+    let a : count (R .r) ≤ vertexLimit = ready-accepted (R .ready) .recorded .ends .few in
+    let x = R .u-low in
+    omega arith
 
 -- what the plan says of the two vertices is what their trees say
 module _ {table r f : List ℕ} {plan : List (List ℕ)} (N : Ready table r f plan) {u v : ℕ} (Q : Pair r f u v) where
@@ -70,38 +111,37 @@ module _ {table r f : List ℕ} {plan : List (List ℕ)} (N : Ready table r f pl
   apart-is = rw (ru .own, fv .own)
 
   labels-low : (labelIn plan recordedVertices u < vertexLabels table) × (labelIn plan foundVertices v < vertexLabels table)
-  labels-low =
-      let A = ready-accepted N in
-      (rw (ru .label) (vertex-known r _ _ u (A .recorded) (Q .u-low)), rw (fv .label) (vertex-known f _ _ v (A .found) (Q .v-low)))
+  labels-low = (label-recorded (recorded N (Q .u-low)), rw (fv .label) (vertex-known f _ _ v (ready-accepted N .found) (Q .v-low)))
 
-pub labels-weighable : {table : List ℕ} {plan : List (List ℕ)} {u v : ℕ} → Weighable table plan u v → (labelIn plan recordedVertices u < vertexLabels table) × (labelIn plan foundVertices v < vertexLabels table)
-labels-weighable W = labels-low (W .ready) (W .pair)
-
-pub low-weighable : {table : List ℕ} {plan : List (List ℕ)} {u v : ℕ} → Weighable table plan u v → (u < vertexLimit) × (v < vertexLimit)
+pub low-weighable : {table : List ℕ} {plan : List (List ℕ)} {u v : ℕ} → Weighable table plan u v → v < vertexLimit
 low-weighable W =
-    let A = ready-accepted (W .ready) in
-    let a : count (W .r) ≤ vertexLimit = A .recorded .ends .few in
-    let b : count (W .f) ≤ vertexLimit = A .found .ends .few in
-    let x = W .pair .u-low in
+    let b : count (W .f) ≤ vertexLimit = ready-accepted (W .ready) .found .ends .few in
     let y = W .pair .v-low in
-    (omega arith, omega arith)
+    omega arith
 
--- serials that are apart; labels, where they are not
-pub pair-apart : (table : List ℕ) (plan : List (List ℕ)) (u v : ℕ) → apart (serialIn plan recordedVertices u) (serialIn plan foundVertices v) ≡ true → PairWeighs table plan u v forbidden
-unfolding vertexPair weighed isForbidden weightOk
-pair-apart table plan u v e = record { is = λ r f N Q. record { is = rw (sym (apart-is N Q) ∙ e); ok = refl } }
+-- by u's row: its weight with v stands in the table; forbidden for serials that are apart; that of the labels, where they are not
+module _ {table : List ℕ} {plan : List (List ℕ)} {u start own : ℕ} (R : RowOf table plan u start own) (v : ℕ) where
+  pub column-weighable : Weighable table plan u v → column start (labelIn plan foundVertices v + 1) ≤ length table
+  column-weighable W =
+      let l = labels-low (W .ready) (W .pair) in
+      rw (R .begins) (row-inside (ready-accepted (W .ready) .weights .sized) _ _ (l .0) (l .1))
 
-pub pair-labels : (table : List ℕ) (plan : List (List ℕ)) (u v : ℕ) (w : ℤ) → apart (serialIn plan recordedVertices u) (serialIn plan foundVertices v) ≡ false
-    → w ≡ int32At table (column (vertexRow table (labelIn plan recordedVertices u)) (labelIn plan foundVertices v)) → PairWeighs table plan u v w
-unfolding vertexPair vertexWeight
-pair-labels table plan u v w e h = record {
-  is = λ r f N Q.
-      let l = labels-low N Q in
-      record {
-        is = rw (sym (apart-is N Q) ∙ e, h, ru N Q .label, fv N Q .label);
-        ok = rw h (ready-accepted N .weights .vertex-ok _ _ (l .0) (l .1));
-      };
-}
+  pub pair-apart : apart own (serialIn plan foundVertices v) ≡ true → PairWeighs table plan u v forbidden
+  unfolding vertexPair weighed isForbidden weightOk
+  pair-apart e = let e′ = rw (R .own) at e in record { is = λ r f N Q. record { is = rw (sym (apart-is N Q) ∙ e′); ok = refl } }
+
+  pub pair-labels : (w : ℤ) → apart own (serialIn plan foundVertices v) ≡ false → w ≡ int32At table (column start (labelIn plan foundVertices v)) → PairWeighs table plan u v w
+  unfolding vertexPair vertexWeight
+  pair-labels w e h = record {
+    is = λ r f N Q.
+        let l = labels-low N Q in
+        let e′ = rw (R .own) at e in
+        let h′ = rw (R .begins) at h in
+        record {
+          is = rw (sym (apart-is N Q) ∙ e′, h′, ru N Q .label, fv N Q .label);
+          ok = rw h′ (ready-accepted N .weights .vertex-ok _ _ (l .0) (l .1));
+        };
+  }
 
 pub weighed-number : (w : ℤ) → isForbidden w ≡ false → weighed w ≡ some w
 unfolding weighed

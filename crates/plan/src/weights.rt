@@ -4,7 +4,8 @@ use crate::Plan;
 use crate::label;
 use crate::serial;
 use formats::table::edge_weight_at;
-use formats::table::vertex_weight_at;
+use formats::table::vertex_row_at;
+use formats::table::weight_in_row;
 use model::Limits;
 ghost use Prim.Native.Nat.{_<_};
 ghost use mathlib.Core.Path.{_≡_};
@@ -13,15 +14,32 @@ ghost use Rattle.model.specs.Pairs.{apart};
 ghost use Rattle.model.specs.Table.{edgeLabels};
 ghost use Rattle.trees.specs.Directions.{labelSeen};
 ghost use Rattle.formats.specs.Table.{TablePassed};
-ghost use Rattle.plan.specs.Plan.{recordedVertices, foundVertices, serialIn};
-ghost use Rattle.plan.specs.Pairs.{Weighable, PairWeighs, EdgePair, GainIs};
+ghost use Rattle.plan.specs.Plan.{foundVertices, serialIn};
+ghost use Rattle.plan.specs.Pairs.{Recorded, RowOf, Weighable, PairWeighs, RowWeighable, RowWeighs, EdgePair, GainIs};
 
-// The serials of recorded vertex u and found vertex v are known and different.
-fn serials_apart(plan: &Plan, u: u8, v: u8) -> bool
-    requires { ⌜ (u < vertexLimit) × (v < vertexLimit) ⌝ }
-    ensures { λ r. ⌜ r ≡ apart (serialIn (now (plan .entry)) recordedVertices u) (serialIn (now (plan .entry)) foundVertices v) ⌝ }
+// What recorded vertex u has in all its pairs: where the weights of its label begin in the table, and its serial.
+pub struct VertexRow {
+    pub start: usize,
+    pub serial: u32,
+}
+
+// That of u, a vertex of the recorded tree.
+pub fn vertex_row(table: &[u8], plan: &Plan, u: u8) -> VertexRow
+    requires { ⌜ Recorded (now table) (now plan) u ⌝ }
+    ensures { λ r. ⌜ RowOf (now (table .entry)) (now (plan .entry)) u (r .start) (r .serial) ⌝ }
 {
-    let a = serial(plan, Blocks::RECORDED_VERTEX, u);
+    let i = label(plan, Blocks::RECORDED_VERTEX, u);
+    VertexRow {
+        start: vertex_row_at(table, i),
+        serial: serial(plan, Blocks::RECORDED_VERTEX, u),
+    }
+}
+
+// The recorded serial a and that of found vertex v are known and different.
+fn serials_apart(plan: &Plan, a: u32, v: u8) -> bool
+    requires { ⌜ v < vertexLimit ⌝ }
+    ensures { λ r. ⌜ r ≡ apart a (serialIn (now (plan .entry)) foundVertices v) ⌝ }
+{
     if a == 0 {
         return false;
     }
@@ -29,19 +47,26 @@ fn serials_apart(plan: &Plan, u: u8, v: u8) -> bool
     (b != 0) & (a != b)
 }
 
-// The weight of the pair of recorded vertex u and found vertex v, by what the plan says of each: forbidden if their serials are apart, else that of
-// their labels.
+// The weight of the pair of a recorded vertex, of which this is the row, and found vertex v, by what the plan says of each: forbidden if their serials
+// are apart, else that of their labels.
+pub fn vertex_pair_in(table: &[u8], plan: &Plan, of: VertexRow, v: u8) -> i32
+    requires { ⌜ RowWeighable (now table) (now plan) (of .start) (of .serial) v ⌝ }
+    ensures { λ r. ⌜ RowWeighs (now (table .entry)) (now (plan .entry)) (of .start) (of .serial) v r ⌝ }
+{
+    let j = label(plan, Blocks::FOUND_VERTEX, v);
+    let w = weight_in_row(table, of.start, j);
+    if serials_apart(plan, of.serial, v) {
+        return Limits::FORBIDDEN;
+    }
+    w
+}
+
+// The weight of the pair of recorded vertex u and found vertex v.
 pub fn vertex_pair(table: &[u8], plan: &Plan, u: u8, v: u8) -> i32
     requires { ⌜ Weighable (now table) (now plan) u v ⌝ }
     ensures { λ r. ⌜ PairWeighs (now (table .entry)) (now (plan .entry)) u v r ⌝ }
 {
-    let i = label(plan, Blocks::RECORDED_VERTEX, u);
-    let j = label(plan, Blocks::FOUND_VERTEX, v);
-    let w = vertex_weight_at(table, i, j);
-    if serials_apart(plan, u, v) {
-        return Limits::FORBIDDEN;
-    }
-    w
+    vertex_pair_in(table, plan, vertex_row(table, plan, u), v)
 }
 
 // The weight of the pair of a recorded edge and a found edge, by what is seen of each from two ends that are partners: forbidden if their directions do

@@ -10,12 +10,14 @@ use Rattle.model.specs.Graph.{neighbours}
 use Rattle.model.specs.Order.{children, width, subproblems}
 use Rattle.model.specs.Values.{recalled}
 use Rattle.plan.specs.Plan.{childEdgeIn, childPlaceIn, neighbourEdgeIn, behindIn, Ready, Lent, Pair}
-use Rattle.plan.specs.Pairs.{EdgePair, GainIs, gainAt, gain-is, branch-index, branch-low}
+use Rattle.plan.specs.Pairs.{RowOf, EdgePair, GainIs, gainAt, gain-is, branch-index, branch-low}
+use Rattle.solver.specs.declared.subproblem.Shared.{Shared}
 
--- recorded vertex u has n children, and w work numbers stand for each of them
-pub record ChildrenOf (r f : List ℕ) (u n w : ℕ) : Type 0 where
-  pub counted : n ≡ length (children r u)
-  pub wide : w ≡ width f
+-- what the pairs of a recorded vertex share: how many children it has, how many work numbers stand for each of them, and its row
+pub record SharedOf (table r f : List ℕ) (plan : List (List ℕ)) (of : Shared) : Type 0 where
+  pub counted : of .count ≡ length (children r (of .u))
+  pub wide : of .width ≡ width f
+  pub row : RowOf table plan (of .u) (of .row .start) (of .row .serial)
 
 module _ {table r f : List ℕ} {plan : List (List ℕ)} (N : Ready table r f plan) {u v : ℕ} (Q : Pair r f u v) (i : ℕ) (hi : i < length (children r u)) (j : ℕ) (hj : j < length (neighbours f v)) where
   pub work-low : {work : List ℤ} → Lent r f work → childPlaceIn plan u i * width f + behindIn plan v j < length work

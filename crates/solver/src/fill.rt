@@ -1,8 +1,8 @@
 //! Filling: count subproblems from a position on, each from the work numbers before it. What u and v have in common is found once: the gains, and
 //! from them the weight of the matching for each choice of s. The path searches that this takes are counted.
-use crate::subproblem::Children;
-use crate::subproblem::children_of;
+use crate::subproblem::Shared;
 use crate::subproblem::gains;
+use crate::subproblem::shared_of;
 use assignment::Counts;
 use assignment::weights::row_weights;
 use assignment::weights::weights;
@@ -16,7 +16,7 @@ use plan::degree;
 use plan::in_order;
 use plan::locate;
 use plan::offset;
-use plan::weights::vertex_pair;
+use plan::weights::vertex_pair_in;
 ghost use Prim.Native.Nat.{_+_, _≤_};
 ghost use mathlib.Core.Path.{_≡_};
 ghost use lib.ListN.{length};
@@ -26,7 +26,7 @@ ghost use Rattle.model.specs.Values.{fill};
 ghost use Rattle.plan.specs.Plan.{Ready, Lent};
 ghost use Rattle.assignment.specs.Counts.{Search, Searches, Countable};
 ghost use Rattle.assignment.specs.Matching.{cell};
-ghost use Rattle.solver.specs.Branches.{ChildrenOf};
+ghost use Rattle.solver.specs.Branches.{SharedOf};
 ghost use Rattle.solver.specs.FillLaws.{RowRun, PairRun};
 ghost use Rattle.solver.specs.Numbers.{written, PairTable, Numbers};
 ghost use Rattle.solver.specs.Bound.{pairMost, searchMost};
@@ -100,19 +100,19 @@ fn fill_pair(
     found: &[u8],
     plan: &Plan,
     work: &mut [i32],
-    of: Children,
+    of: Shared,
     v: u8,
     run: Run,
 )
     requires { ⌜ Ready (now table) (now recorded) (now found) (now plan) ⌝ }
     requires { ⌜ Lent (now recorded) (now found) (now work) ⌝ }
-    requires { ⌜ ChildrenOf (now recorded) (now found) (of .u) (of .count) (of .width) ⌝ }
+    requires { ⌜ SharedOf (now table) (now recorded) (now found) (now plan) of ⌝ }
     requires { ⌜ PairRun (now recorded) (now found) (of .u) v (run .first) (run .from) (run .count) ⌝ }
     requires { ⌜ length (now g) ≡ pairLimit ⌝ }
     requires { ⌜ Countable (pairMost (now recorded) (now found) (of .u) v) (now counts) ⌝ }
     ensures { λ _. ⌜ (now (work .exit) ≡ fill (now (table .entry)) (now (recorded .entry)) (now (found .entry)) (now (work .entry)) (run .from) (run .count)) × (length (now (g .exit)) ≡ pairLimit) × (Searches (pairMost (now (recorded .entry)) (now (found .entry)) (of .u) v) (now (counts .entry)) (now (counts .exit))) ⌝ }
 {
-    let w = vertex_pair(table, plan, of.u, v);
+    let w = vertex_pair_in(table, plan, of.row, v);
     let k = of.count;
     let l = degree(plan, v);
     if integers::is_forbidden(w) {
@@ -150,7 +150,7 @@ fn fill_row(
     requires { ⌜ Countable (searchMost (now recorded) (now found) (run .from) (run .count)) (now counts) ⌝ }
     ensures { λ _. ⌜ (now (work .exit) ≡ fill (now (table .entry)) (now (recorded .entry)) (now (found .entry)) (now (work .entry)) (run .from) (run .count)) × (length (now (g .exit)) ≡ pairLimit) × (Searches (searchMost (now (recorded .entry)) (now (found .entry)) (run .from) (run .count)) (now (counts .entry)) (now (counts .exit))) ⌝ }
 {
-    let of = children_of(table, recorded, found, plan, u);
+    let of = shared_of(table, recorded, found, plan, u);
     let m = vertex_count(found);
     let first = run.first;
     let from = run.from;

@@ -15,15 +15,17 @@ use plan::degree;
 use plan::neighbour;
 use plan::neighbour_edge;
 use plan::slot;
+use plan::weights::VertexRow;
 use plan::weights::edge_pair;
 use plan::weights::gain_of;
+use plan::weights::vertex_row;
 use plan::wide;
 ghost use Prim.Native.Nat.{_<_};
 ghost use mathlib.Core.Path.{_≡_};
 ghost use lib.ListN.{length};
 ghost use Rattle.plan.specs.Pairs.{gainAt, RowFilled, Filled};
 ghost use Rattle.plan.specs.Plan.{neighbourIn, Ready, Lent, Pair};
-ghost use Rattle.solver.specs.Branches.{ChildrenOf};
+ghost use Rattle.solver.specs.Branches.{SharedOf};
 ghost use Rattle.solver.specs.Choice.{ChoiceAt};
 ghost use Rattle.solver.specs.Mates.{nameOr, Mates};
 ghost use Rattle.assignment.specs.State.{Sized};
@@ -34,23 +36,26 @@ ghost use Rattle.model.specs.Graph.{neighbours};
 ghost use Rattle.model.specs.Limits.{vertexLimit, pairLimit};
 ghost use Rattle.model.specs.Order.{children};
 
-// The children of recorded vertex u: how many, and how many work numbers stand for each of them. What the gains of u with any v have in common.
-pub struct Children {
+// What the pairs of recorded vertex u with any v share: u's children and how many work numbers stand for each of them, where the weights of its label begin
+// in the table, and its serial.
+pub struct Shared {
     pub u: u8,
     pub count: usize,
     pub width: usize,
+    pub row: VertexRow,
 }
 
-// Those of u, a vertex of the recorded tree.
-pub fn children_of(table: &[u8], recorded: &[u8], found: &[u8], plan: &Plan, u: u8) -> Children
+// That of u, a vertex of the recorded tree.
+pub fn shared_of(table: &[u8], recorded: &[u8], found: &[u8], plan: &Plan, u: u8) -> Shared
     requires { ⌜ Ready (now table) (now recorded) (now found) (now plan) ⌝ }
     requires { ⌜ u < count (now recorded) ⌝ }
-    ensures { λ r. ⌜ (r .u ≡ u) × (ChildrenOf (now (recorded .entry)) (now (found .entry)) u (r .count) (r .width)) ⌝ }
+    ensures { λ r. ⌜ (r .u ≡ u) × (SharedOf (now (table .entry)) (now (recorded .entry)) (now (found .entry)) (now (plan .entry)) r) ⌝ }
 {
-    Children {
+    Shared {
         u: u,
         count: child_count(plan, u),
         width: width_of(found),
+        row: vertex_row(table, plan, u),
     }
 }
 
@@ -62,7 +67,7 @@ fn gain_row(
     found: &[u8],
     plan: &Plan,
     work: &[i32],
-    of: Children,
+    of: Shared,
     v: u8,
     i: usize,
 )
@@ -70,7 +75,7 @@ fn gain_row(
     requires { ⌜ Ready (now table) (now recorded) (now found) (now plan) ⌝ }
     requires { ⌜ Lent (now recorded) (now found) (now work) ⌝ }
     requires { ⌜ Pair (now recorded) (now found) (of .u) v ⌝ }
-    requires { ⌜ ChildrenOf (now recorded) (now found) (of .u) (of .count) (of .width) ⌝ }
+    requires { ⌜ SharedOf (now table) (now recorded) (now found) (now plan) of ⌝ }
     requires { ⌜ i < length (children (now recorded) (of .u)) ⌝ }
     ensures { λ _. ⌜ RowFilled (length (neighbours (now (found .entry)) v)) i (gainAt (now (table .entry)) (now (recorded .entry)) (now (found .entry)) (recalled (now (recorded .entry)) (now (found .entry)) (now (work .entry))) (of .u) v i) (now (g .entry)) (now (g .exit)) ⌝ }
 {
@@ -95,14 +100,14 @@ pub fn gains(
     found: &[u8],
     plan: &Plan,
     work: &[i32],
-    of: Children,
+    of: Shared,
     v: u8,
 )
     requires { ⌜ length (now g) ≡ pairLimit ⌝ }
     requires { ⌜ Ready (now table) (now recorded) (now found) (now plan) ⌝ }
     requires { ⌜ Lent (now recorded) (now found) (now work) ⌝ }
     requires { ⌜ Pair (now recorded) (now found) (of .u) v ⌝ }
-    requires { ⌜ ChildrenOf (now recorded) (now found) (of .u) (of .count) (of .width) ⌝ }
+    requires { ⌜ SharedOf (now table) (now recorded) (now found) (now plan) of ⌝ }
     ensures { λ _. ⌜ Filled (length (children (now (recorded .entry)) (of .u))) (length (neighbours (now (found .entry)) v)) (gainAt (now (table .entry)) (now (recorded .entry)) (now (found .entry)) (recalled (now (recorded .entry)) (now (found .entry)) (now (work .entry))) (of .u) v) (now (g .exit)) ⌝ }
 {
     let k = of.count;
@@ -167,7 +172,7 @@ pub fn choice(
     requires { ⌜ length (now g) ≡ pairLimit ⌝ }
     ensures { λ r. ⌜ (ChoiceAt (now (table .entry)) (now (recorded .entry)) (now (found .entry)) (now (work .entry)) u v s r) × (length (now (g .exit)) ≡ pairLimit) ⌝ }
 {
-    let of = children_of(table, recorded, found, plan, u);
+    let of = shared_of(table, recorded, found, plan, u);
     let k = of.count;
     let l = degree(plan, v);
     let c = slot(plan, v, s);

@@ -5,7 +5,7 @@ use Rattle.formats.proofs.table.weight_at.Statement.{statement}
 use Rattle.formats.proofs.table.weight_at.Tie as tie
 
 returns : tie.Need-returns
-returns c = let b : Same (c .int32-at .result) = search needs in rw (b, c .int32-at .ensures, c .before .row-at .ensures .is)
+returns c = let b : Same (c .weight-in-row .result) = search needs in rw (b, c .weight-in-row .ensures, c .before .row-at .ensures .is)
 
 pub weight-at-spec : {M : Type 1} → statement M
-weight-at-spec = tie.close (tie.spec (λ c κs. search needs) (λ c. search needs) (λ c. search needs) (λ c. search needs) (λ c κs. search needs) returns)
+weight-at-spec = tie.close (tie.spec (λ c κs. search needs) (λ c κs. search needs) returns)

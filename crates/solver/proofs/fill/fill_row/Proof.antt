@@ -37,8 +37,8 @@ low c = ⊎-elim
     omega (arith, c .offset .ensures, ap (offsetIn (c .before .before .before .before .before .before .before .args .plan .now)) z))
     (less? 0 (c .before .locate .result))
 
-children-of-requires : tie.Need-children-of-requires Inv-loop μ-loop
-children-of-requires c κs = let p = c .before .before .before .pre in (p .0, p .1 .1 .0 .u-low)
+shared-of-requires : tie.Need-shared-of-requires Inv-loop μ-loop
+shared-of-requires c κs = let p = c .before .before .before .pre in (p .0, p .1 .1 .0 .u-low)
 
 vertex-count-requires : tie.Need-vertex-count-requires Inv-loop μ-loop
 vertex-count-requires c κs = let e = ready-accepted (c .before .before .before .before .pre .0) .found .ends in record { some = e .some; few = e .few; long = e .long }
@@ -65,7 +65,7 @@ add-at : tie.Need-add-at Inv-loop μ-loop
 add-at c = let p = c .before .before .before .before .before .before .before .before .before .before .before .pre in let i = c .before .before .before .loop .inv in let t = c .before .before .loop-test .taken in let L = i .2 t in let a = run-room (p .0) (p .1 .1 .0) _ t (c .before .before .before .before .before .before .vertex-count .ensures) (L .0) in let h = p .1 .1 .0 .enough in let n = number-few (p .0) in omega arith
 
 fill-pair-requires : tie.Need-fill-pair-requires Inv-loop μ-loop
-fill-pair-requires c κs = let p = c .before .before .before .before .before .before .before .before .before .before .before .before .before .before .pre in let i = c .before .before .before .before .before .before .loop .inv in let t = c .before .before .before .before .before .loop-test .taken in let L = i .2 t in let a = run-room (p .0) (p .1 .1 .0) _ t (c .before .before .before .before .before .before .before .before .before .vertex-count .ensures) (L .0) in let e = lesser-is (c .before .before .before .lesser .ensures) (omega arith) (omega (arith, a .2, c .before .before .before .before .degree .ensures, L .1)) in let R = pair-run (p .0) {q = c .before .before .before .before .before .before .loop .q} (p .1 .1 .0) _ t (c .before .before .before .before .before .before .before .before .before .vertex-count .ensures) (L .0) (L .1) (e .1) (rw (← c .before .before .before .before .degree .ensures) (e .2)) in let m = most-pair R (e .0) in let s = most-more (c .before .before .before .before .before .before .before .before .before .before .before .before .before .before .args .recorded .now) (c .before .before .before .before .before .before .before .before .before .before .before .before .before .before .args .found .now) (c .before .before .before .before .before .before .before .before .before .before .before .before .before .before .args .run .from) (c .before .before .before .before .before .before .loop .i) (c .before .before .before .lesser .result) (λ z. i .4 z t) in let C = c .before .before .before .before .before .before .before .before .before .before .children-of .ensures in (p .0, (fill-lent _ _ _ _ _ _ _ (p .1 .0) (i .1), (rw (C .0) (C .1), (rw (C .0) R, (i .3, rw (C .0) (countable-after (countable-less (p .1 .1 .1 .1) (let y = most-upto (c .before .before .before .before .before .before .before .before .before .before .before .before .before .before .args .recorded .now) (c .before .before .before .before .before .before .before .before .before .before .before .before .before .before .args .found .now) (c .before .before .before .before .before .before .before .before .before .before .before .before .before .before .args .run .from) (c .before .before .before .before .before .before .loop .i + c .before .before .before .lesser .result) (c .before .before .before .before .before .before .before .before .before .before .before .before .before .before .args .run .count) (let f = e .1 in omega arith) in omega arith)) (i .5)))))))
+fill-pair-requires c κs = let p = c .before .before .before .before .before .before .before .before .before .before .before .before .before .before .pre in let i = c .before .before .before .before .before .before .loop .inv in let t = c .before .before .before .before .before .loop-test .taken in let L = i .2 t in let a = run-room (p .0) (p .1 .1 .0) _ t (c .before .before .before .before .before .before .before .before .before .vertex-count .ensures) (L .0) in let e = lesser-is (c .before .before .before .lesser .ensures) (omega arith) (omega (arith, a .2, c .before .before .before .before .degree .ensures, L .1)) in let R = pair-run (p .0) {q = c .before .before .before .before .before .before .loop .q} (p .1 .1 .0) _ t (c .before .before .before .before .before .before .before .before .before .vertex-count .ensures) (L .0) (L .1) (e .1) (rw (← c .before .before .before .before .degree .ensures) (e .2)) in let m = most-pair R (e .0) in let s = most-more (c .before .before .before .before .before .before .before .before .before .before .before .before .before .before .args .recorded .now) (c .before .before .before .before .before .before .before .before .before .before .before .before .before .before .args .found .now) (c .before .before .before .before .before .before .before .before .before .before .before .before .before .before .args .run .from) (c .before .before .before .before .before .before .loop .i) (c .before .before .before .lesser .result) (λ z. i .4 z t) in let C = c .before .before .before .before .before .before .before .before .before .before .shared-of .ensures in (p .0, (fill-lent _ _ _ _ _ _ _ (p .1 .0) (i .1), (C .1, (rw (C .0) R, (i .3, rw (C .0) (countable-after (countable-less (p .1 .1 .1 .1) (let y = most-upto (c .before .before .before .before .before .before .before .before .before .before .before .before .before .before .args .recorded .now) (c .before .before .before .before .before .before .before .before .before .before .before .before .before .before .args .found .now) (c .before .before .before .before .before .before .before .before .before .before .before .before .before .before .args .run .from) (c .before .before .before .before .before .before .loop .i + c .before .before .before .lesser .result) (c .before .before .before .before .before .before .before .before .before .before .before .before .before .before .args .run .count) (let f = e .1 in omega arith) in omega arith)) (i .5)))))))
 
 add-v : tie.Need-add-v Inv-loop μ-loop
 add-v c = let p = c .before .before .before .before .before .before .before .before .before .before .before .before .before .before .before .before .pre in let i = c .before .before .before .before .before .before .before .before .loop .inv in let t = c .before .before .before .before .before .before .before .loop-test .taken in let L = i .2 t in let a = run-room (p .0) (p .1 .1 .0) _ t (c .before .before .before .before .before .before .before .before .before .before .before .vertex-count .ensures) (L .0) in omega (arith, a .0, ready-accepted (p .0) .found .ends .few)
@@ -77,7 +77,7 @@ loop-less : tie.Need-loop-less Inv-loop μ-loop
 loop-less c = let p = c .before .before .before .before .before .before .before .before .before .before .before .before .before .before .before .before .pre in let i = c .before .before .before .before .before .before .before .before .loop .inv in let t = c .before .before .before .before .before .before .before .loop-test .taken in let L = i .2 t in let a = run-room (p .0) (p .1 .1 .0) _ t (c .before .before .before .before .before .before .before .before .before .before .before .vertex-count .ensures) (L .0) in let e = lesser-is (c .before .before .before .before .before .lesser .ensures) (omega arith) (omega (arith, a .2, c .before .before .before .before .before .before .degree .ensures, L .1)) in omega (arith, e .0, e .1)
 
 loop-again : tie.Need-loop-again Inv-loop μ-loop
-loop-again c = let p = c .before .before .before .before .before .before .before .before .before .before .before .before .before .before .before .before .pre in let i = c .before .before .before .before .before .before .before .before .loop .inv in let t = c .before .before .before .before .before .before .before .loop-test .taken in let L = i .2 t in let a = run-room (p .0) (p .1 .1 .0) _ t (c .before .before .before .before .before .before .before .before .before .before .before .vertex-count .ensures) (L .0) in let e = lesser-is (c .before .before .before .before .before .lesser .ensures) (omega arith) (omega (arith, a .2, c .before .before .before .before .before .before .degree .ensures, L .1)) in let R = pair-run (p .0) {q = c .before .before .before .before .before .before .before .before .loop .q} (p .1 .1 .0) _ t (c .before .before .before .before .before .before .before .before .before .before .before .vertex-count .ensures) (L .0) (L .1) (e .1) (rw (← c .before .before .before .before .before .before .degree .ensures) (e .2)) in let m = most-pair R (e .0) in let s = most-more (c .before .before .before .before .before .before .before .before .before .before .before .before .before .before .before .before .args .recorded .now) (c .before .before .before .before .before .before .before .before .before .before .before .before .before .before .before .before .args .found .now) (c .before .before .before .before .before .before .before .before .before .before .before .before .before .before .before .before .args .run .from) (c .before .before .before .before .before .before .before .before .loop .i) (c .before .before .before .before .before .lesser .result) (λ z. i .4 z t) in (omega (arith, e .1), fill-slice _ _ _ _ _ _ _ _ _ (i .1) (c .before .fill-pair .ensures .0), λ y. next-located (p .0) (p .1 .1 .0) _ (c .before .before .before .before .before .before .before .before .loop .v) y (a .0) (let w = lesser-less (c .before .before .before .before .before .lesser .ensures) (omega arith) in let d = c .before .before .before .before .before .before .degree .ensures ∙ p .0 .planned .found _ (a .0) .degree in let o = offsets-are (p .0) _ (a .0) in omega (arith, a .1, L .1)) (c .before .before .before .before .before .before .before .before .before .before .before .vertex-count .ensures), c .before .fill-pair .ensures .1, λ z y. begins-next (p .0) (p .1 .1 .0) _ (c .before .before .before .before .before .before .before .before .loop .v) y (a .0) (let w = lesser-less (c .before .before .before .before .before .lesser .ensures) (omega arith) in let d = c .before .before .before .before .before .before .degree .ensures ∙ p .0 .planned .found _ (a .0) .degree in let o = offsets-are (p .0) _ (a .0) in omega (arith, a .1, L .1)), searches-few (searches-both (i .5) (rw (c .before .before .before .before .before .before .before .before .before .before .before .before .children-of .ensures .0) at (c .before .fill-pair .ensures .2))) (omega arith))
+loop-again c = let p = c .before .before .before .before .before .before .before .before .before .before .before .before .before .before .before .before .pre in let i = c .before .before .before .before .before .before .before .before .loop .inv in let t = c .before .before .before .before .before .before .before .loop-test .taken in let L = i .2 t in let a = run-room (p .0) (p .1 .1 .0) _ t (c .before .before .before .before .before .before .before .before .before .before .before .vertex-count .ensures) (L .0) in let e = lesser-is (c .before .before .before .before .before .lesser .ensures) (omega arith) (omega (arith, a .2, c .before .before .before .before .before .before .degree .ensures, L .1)) in let R = pair-run (p .0) {q = c .before .before .before .before .before .before .before .before .loop .q} (p .1 .1 .0) _ t (c .before .before .before .before .before .before .before .before .before .before .before .vertex-count .ensures) (L .0) (L .1) (e .1) (rw (← c .before .before .before .before .before .before .degree .ensures) (e .2)) in let m = most-pair R (e .0) in let s = most-more (c .before .before .before .before .before .before .before .before .before .before .before .before .before .before .before .before .args .recorded .now) (c .before .before .before .before .before .before .before .before .before .before .before .before .before .before .before .before .args .found .now) (c .before .before .before .before .before .before .before .before .before .before .before .before .before .before .before .before .args .run .from) (c .before .before .before .before .before .before .before .before .loop .i) (c .before .before .before .before .before .lesser .result) (λ z. i .4 z t) in (omega (arith, e .1), fill-slice _ _ _ _ _ _ _ _ _ (i .1) (c .before .fill-pair .ensures .0), λ y. next-located (p .0) (p .1 .1 .0) _ (c .before .before .before .before .before .before .before .before .loop .v) y (a .0) (let w = lesser-less (c .before .before .before .before .before .lesser .ensures) (omega arith) in let d = c .before .before .before .before .before .before .degree .ensures ∙ p .0 .planned .found _ (a .0) .degree in let o = offsets-are (p .0) _ (a .0) in omega (arith, a .1, L .1)) (c .before .before .before .before .before .before .before .before .before .before .before .vertex-count .ensures), c .before .fill-pair .ensures .1, λ z y. begins-next (p .0) (p .1 .1 .0) _ (c .before .before .before .before .before .before .before .before .loop .v) y (a .0) (let w = lesser-less (c .before .before .before .before .before .lesser .ensures) (omega arith) in let d = c .before .before .before .before .before .before .degree .ensures ∙ p .0 .planned .found _ (a .0) .degree in let o = offsets-are (p .0) _ (a .0) in omega (arith, a .1, L .1)), searches-few (searches-both (i .5) (rw (c .before .before .before .before .before .before .before .before .before .before .before .before .shared-of .ensures .0) at (c .before .fill-pair .ensures .2))) (omega arith))
 
 same-length : tie.Need-same-length Inv-loop μ-loop
 same-length c = ap length (c .before .loop .inv .1) ∙ length-fill _ _ _ _ _ _
@@ -91,7 +91,7 @@ fill-row-spec =
     (tie.spec
     Inv-loop
     μ-loop
-    children-of-requires
+    shared-of-requires
     vertex-count-requires
     locate-requires
     offset-requires
