@@ -51,16 +51,16 @@ balance-more {k} {l} {o} {b} {T} {C} {T′} {C′} B ho to PT hb cb PC = record 
 total-shifted : {k l e : ℕ} {T C y z S y′ z′ S′ : ℕ → ℕ} → Balance k l T C → Shifted k l e T C y z S y′ z′ S′ → sum k y′ + sum l z′ + e ≡ sum k y + sum l z
 total-shifted {k} {l} {e} {T} {C} {y} {z} {S} {y′} {z′} B sh =
     let rows : sum k y ≡ sum k y′ + sum k (marked T e) =
-        sum-ext k y (λ i. y′ i + marked T e i) (λ i hi. ⊎-elim
-        (λ t. omega (arith, sh .yin i hi t, marked-in T e i t))
-        (λ t. omega (arith, sh .yout i hi t, marked-out T e i t))
-        (same? (T i) 1)) ∙ sum-add k y′ (marked T e)
+    sum-ext k y (λ i. y′ i + marked T e i) (λ i hi. ⊎-elim
+    (λ t. omega (arith, sh .yin i hi t, marked-in T e i t))
+    (λ t. omega (arith, sh .yout i hi t, marked-out T e i t))
+    (same? (T i) 1)) ∙ sum-add k y′ (marked T e)
     in
     let columns : sum l z′ ≡ sum l z + sum l (marked C e) =
-        sum-ext l z′ (λ j. z j + marked C e j) (λ j hj. ⊎-elim
-        (λ c. omega (arith, sh .zin j hj c, marked-in C e j c))
-        (λ c. omega (arith, sh .zout j hj c, marked-out C e j c))
-        (same? (C j) 1)) ∙ sum-add l z (marked C e)
+    sum-ext l z′ (λ j. z j + marked C e j) (λ j hj. ⊎-elim
+    (λ c. omega (arith, sh .zin j hj c, marked-in C e j c))
+    (λ c. omega (arith, sh .zout j hj c, marked-out C e j c))
+    (same? (C j) 1)) ∙ sum-add l z (marked C e)
     in
     omega (arith, rows, columns, B .even e)
 

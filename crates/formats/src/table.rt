@@ -228,16 +228,6 @@ pub fn vertex_row_at(table: &[u8], i: u8) -> usize
     row_at(vertex_block(table), i)
 }
 
-// The weight of the recorded vertex label i and the found one j.
-pub fn vertex_weight_at(table: &[u8], i: u8, j: u8) -> i32
-    requires { ⌜ TableSized (now table) ⌝ }
-    requires { ⌜ i < vertexLabels (now table) ⌝ }
-    requires { ⌜ j < vertexLabels (now table) ⌝ }
-    ensures { λ r. ⌜ r ≡ int32At (now (table .entry)) (column (vertexRow (now (table .entry)) i) j) ⌝ }
-{
-    weight_in_row(table, vertex_row_at(table, i), j)
-}
-
 // The weight of the recorded edge label i and the found one j.
 pub fn edge_weight_at(table: &[u8], i: u8, j: u8) -> i32
     requires { ⌜ TableSized (now table) ⌝ }

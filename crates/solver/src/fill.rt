@@ -72,7 +72,15 @@ fn fill_single(counts: &mut Counts, g: &Gains, l: usize, w: i32, work: &mut [i32
 }
 
 // The numbers of a run of a pair with any number of children.
-fn fill_table(counts: &mut Counts, g: &Gains, k: usize, l: usize, w: i32, work: &mut [i32], run: Run)
+fn fill_table(
+    counts: &mut Counts,
+    g: &Gains,
+    k: usize,
+    l: usize,
+    w: i32,
+    work: &mut [i32],
+    run: Run,
+)
     requires { ⌜ PairTable k l (cell (now g)) w (run .first) (run .from) (run .count) (now work) ⌝ }
     requires { ⌜ Countable (k + l) (now counts) ⌝ }
     ensures { λ _. ⌜ (Numbers k l (cell (now (g .entry))) w (run .first) (run .from) (run .count) (now (work .entry)) (now (work .exit))) × (Searches (k + l) (now (counts .entry)) (now (counts .exit))) ⌝ }
