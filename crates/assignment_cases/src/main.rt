@@ -8,6 +8,7 @@ use assignment::FREE;
 use assignment::GAIN_LIMIT;
 use assignment::SEARCHES;
 use assignment::weights::Weights;
+use assignment::weights::row_weights;
 use assignment::weights::weights;
 use libc::STDOUT_FILENO;
 use model::Gains;
@@ -209,6 +210,26 @@ fn one(b: bool) -> u64 {
     if b { 1 } else { 0 }
 }
 
+fn pick(b: bool, x: u64, y: u64) -> u64 {
+    if b { x } else { y }
+}
+
+// The weights of the first row alone are those in t.
+fn single_right(g: &Gains, l: usize, t: &Weights) -> bool
+    requires { ⌜ l ≤ degreeLimit ⌝ }
+{
+    let mut counts = [0u64; Limits::PAIRS + 1];
+    let s = row_weights(&mut counts, g, l);
+    let mut fine = true;
+    let mut c = 0;
+    while c <= l {
+        let same = pick(c == s.out, s.rest, s.whole) == t[c];
+        fine = fine & same;
+        c += 1;
+    }
+    fine
+}
+
 // One matrix of k rows and l columns, and its weights without each column, added to the counts.
 fn compare(kind: u64, seed: u64, k: usize, l: usize, n: Count) -> Count
     requires { ⌜ (k ≤ degreeLimit) × (l ≤ degreeLimit) ⌝ }
@@ -222,7 +243,9 @@ fn compare(kind: u64, seed: u64, k: usize, l: usize, n: Count) -> Count
     let mut counts = [0u64; Limits::PAIRS + 1];
     weights(&mut t, &mut counts, &g, k, l);
     let same = t[0] == assignment::total(k, l, &y, &z);
-    let whole = right(&g, k, l, &y, &z, &m) & same;
+    let single = single_right(&g, l, &t);
+    let other = k != 1;
+    let whole = right(&g, k, l, &y, &z, &m) & same & (single | other);
     Count {
         matrices: wrapping_add_u64(n.matrices, 1),
         right: wrapping_add_u64(n.right, one(whole)),

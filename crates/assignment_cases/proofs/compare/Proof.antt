@@ -17,13 +17,13 @@ total-requires : tie.Need-total-requires
 total-requires c κs = let a = c .before .before .before .before .before .before .solve .ensures .solved in (c .before .before .before .before .before .before .before .before .before .before .before .before .pre .0, c .before .before .before .before .before .before .before .before .before .before .before .before .pre .1, a .row-limit, a .column-limit)
 
 right-requires : tie.Need-right-requires
-right-requires c κs = ((small-sized (c .before .before .before .before .before .before .before .before .before .before .before .before .before .before .before .before .table .ensures) (c .before .before .before .before .before .before .before .before .before .before .before .before .before .before .before .before .before .pre .0) (c .before .before .before .before .before .before .before .before .before .before .before .before .before .before .before .before .before .pre .1)), c .before .before .before .before .before .before .before .before .before .before .before .solve .ensures)
+right-requires c κs = ((small-sized (c .before .before .before .before .before .before .before .before .before .before .before .before .before .before .before .before .before .before .before .table .ensures) (c .before .before .before .before .before .before .before .before .before .before .before .before .before .before .before .before .before .before .before .before .pre .0) (c .before .before .before .before .before .before .before .before .before .before .before .before .before .before .before .before .before .before .before .before .pre .1)), c .before .before .before .before .before .before .before .before .before .before .before .before .before .before .solve .ensures)
 
 rests-right-requires : tie.Need-rests-right-requires
-rests-right-requires c κs = (small-sized (c .before .before .before .before .before .before .before .before .before .before .before .before .before .before .before .before .before .before .before .before .before .before .before .table .ensures) (c .before .before .before .before .before .before .before .before .before .before .before .before .before .before .before .before .before .before .before .before .before .before .before .before .pre .0) (c .before .before .before .before .before .before .before .before .before .before .before .before .before .before .before .before .before .before .before .before .before .before .before .before .pre .1))
+rests-right-requires c κs = (small-sized (c .before .before .before .before .before .before .before .before .before .before .before .before .before .before .before .before .before .before .before .before .before .before .before .before .before .before .table .ensures) (c .before .before .before .before .before .before .before .before .before .before .before .before .before .before .before .before .before .before .before .before .before .before .before .before .before .before .before .pre .0) (c .before .before .before .before .before .before .before .before .before .before .before .before .before .before .before .before .before .before .before .before .before .before .before .before .before .before .before .pre .1))
 
 add-wrapping-add-u64 : tie.Need-add-wrapping-add-u64
-add-wrapping-add-u64 c = let p = c .before .before .before .before .before .before .before .before .before .before .before .before .before .before .before .before .before .before .before .before .before .before .before .before .before .before .before .pre in omega arith
+add-wrapping-add-u64 c = let p = c .before .before .before .before .before .before .before .before .before .before .before .before .before .before .before .before .before .before .before .before .before .before .before .before .before .before .before .before .before .before .pre in omega arith
 
 pub compare-spec : {M : Type 1} → statement M
 compare-spec =
@@ -34,6 +34,7 @@ compare-spec =
     weights-requires
     (λ c. search needs)
     total-requires
+    (λ c κs. search needs)
     right-requires
     (λ c κs. search needs)
     (λ c κs. search needs)
