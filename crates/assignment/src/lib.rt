@@ -1,8 +1,8 @@
-//! The heaviest matching of rows with columns, at most `PLACES` each, by path searches: one search for each row, and in a search
-//! each pair of a row and a column is looked at once at most. Searches and looks are counted. Gains are at `row * PLACES + column`, none above `GAIN_LIMIT`. The duals
-//! `y` of rows and `z` of columns show that no matching is heavier: their sums cover every gain, and the sum of all is the
-//! matching's weight. `m` has the column of each row, or `FREE`. A choice c leaves a column out: none for 0, else column c - 1. `weights`
-//! has the weight for each choice, and `rest` that without one column. The definitions are in `specs/`.
+//! The heaviest matching of rows with columns, at most `PLACES` each, by path searches: one search for each row, and in a search each pair of a row
+//! and a column is looked at once at most. Searches and looks are counted. Gains are at `row * PLACES + column`, none above `GAIN_LIMIT`. The
+//! duals `y` of rows and `z` of columns show that no matching is heavier: their sums cover every gain, and the sum of all is the matching's
+//! weight. `m` has the column of each row, or `FREE`. A choice c leaves a column out: none for 0, else column c - 1. `weights` has the weight for
+//! each choice, and `rest` that without one column. The definitions are in `specs/`.
 pub mod rest;
 pub mod weights;
 
@@ -29,7 +29,8 @@ pub const GAIN_LIMIT: u64 = 281474976710656;
 // What stands for the column of a row that has none, and for the row of a column that has none.
 pub const FREE: u8 = Limits::DEGREE;
 
-// How often each pair of a row and a column was looked at, at row * PLACES + column, and at SEARCHES how many path searches there were.
+// How often each pair of a row and a column was looked at, at row * PLACES + column, and at SEARCHES how many path searches
+// there were.
 pub type Counts = [u64; Limits::PAIRS + 1];
 
 pub const SEARCHES: usize = Limits::PAIRS;
@@ -323,7 +324,7 @@ fn explore(
 
 // Row r, which is pending, joins the finished rows, whichever they are. Its dual starts at the limit, which covers every gain, so
 // that its gains are looked at once. Nothing is left to do where the columns' duals cover r, or its nearest column is free.
-// `own` has the row of each column, before and after. The search is counted, and so is each pair that it looks at: no pair twice.
+// `own` has the row of each column, before and after. The search is counted, and so is each pair that it looks at: none twice.
 pub(crate) fn search(
     counts: &mut Counts,
     g: &Gains,
