@@ -6,4 +6,5 @@ pub mod Choice
 pub mod Branches
 pub mod FillLaws
 pub mod Bound
+pub mod ByPairs
 pub mod Mates
