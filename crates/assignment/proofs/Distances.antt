@@ -1,12 +1,11 @@
 -- A search that writes nothing but its counts: the rows of its tree, their alternatives and the new duals are there in thought alone. Assumes nothing.
 use mathlib.Core.Path.{_≡_, refl, sym, ap, subst, _∙_}
 use mathlib.Core.Logic.{⊎-elim, _≢_}
-use mathlib.Core.Bool.{true, not}
+use mathlib.Core.Bool.{true}
 use mathlib.Core.List.{List, []}
 use Prim.Native.Nat.{ℕ, zero, suc, _+_, _-_, _*_, _≤_, _<_}
 use native.Mathlib.Omega.{arith}
 use native.Mathlib.Numerals.{add-one}
-use lib.Dec.{eqb}
 use lib.ListN.{length, getD, set, replicate}
 use lib.Seq.{getD-set-same, getD-set-other}
 use borrow.Author.Tests.{eq-eqb, ne-eqb}
@@ -15,8 +14,8 @@ use Rattle.foundations.specs.Sums.{sum, sum-point, sum-most}
 use Rattle.foundations.specs.Changed.{Changed, changed-none, changed-more}
 use Rattle.model.specs.Limits.{degreeLimit}
 use Rattle.assignment.specs.Matching.{at, outOf, gainLimit}
-use Rattle.assignment.specs.State.{State, Sized, Lengths, Pending, Solved, Heaviest, but}
-use Rattle.assignment.specs.Loops.{lessOf, whoOf, rowEnd, columnEnd, OwnersOf, Looked, First, Room, Settled}
+use Rattle.assignment.specs.State.{State, Sized, Lengths, Pending, Heaviest, but}
+use Rattle.assignment.specs.Loops.{lessOf, whoOf, rowEnd, columnEnd, Looked, First, Room, Settled}
 use Rattle.assignment.specs.Tree.{outside, Grown, Rooted, Turn, Ended, Vacant, Reached, Solution}
 use Rattle.assignment.specs.Counts.{Tried, RowCountable, Countable, Search}
 use Rattle.assignment.proofs.Counting.{Tries, tries-start, tries-once, counted, search-rows, others-countable}

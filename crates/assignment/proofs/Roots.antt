@@ -1,7 +1,7 @@
 -- The start and the quick ends of a search, the loop of `solve`, and the start of `without`. Assumes nothing.
 use mathlib.Core.Path.{_≡_, refl, sym, ap, subst, _∙_}
 use mathlib.Core.Logic.{inl, inr, ⊎-elim, _≢_}
-use mathlib.Core.Bool.{true≢false, Bool, true, false, cond, not}
+use mathlib.Core.Bool.{true≢false, Bool, true, false, cond}
 use mathlib.Core.List.{List}
 use Prim.Native.Nat.{ℕ, _+_, _-_, _≤_, _<_}
 use native.Mathlib.Omega.{arith}
@@ -172,19 +172,6 @@ state-next r G J = state-more r (J .state (state-pending G))
 pub state-solved : {k l r : ℕ} {g : ℕ → ℕ → ℕ} {y z m : ℕ → ℕ} → Sized k l g → State k l g (before r) y z m → k ≤ r → Solved k l g y z m
 state-solved {r = r} S G le = solved G (λ i hi. lt-ltb i r (omega arith)) (S .gains)
 
--- ---- a state over gains that are the same
-
-pub state-same : {k l : ℕ} {g h : ℕ → ℕ → ℕ} {f : ℕ → Bool} {y z m : ℕ → ℕ} → ((i j : ℕ) → i < k → j < l → h i j ≡ g i j) → State k l g f y z m → State k l h f y z m
-state-same e S = record {
-  feasible = λ i j hi p hj. omega (arith, e i j hi hj, S .feasible i j hi p hj);
-  tight = λ i hi lt. e i _ hi lt ∙ S .tight i hi lt;
-  injective = S .injective;
-  columns = S .columns;
-  rows = S .rows;
-  pending = S .pending;
-  limit = S .limit;
-}
-
 -- nothing is left out
 pub out-none : (g : ℕ → ℕ → ℕ) (i j : ℕ) → outOf 0 g i j ≡ g i j
 out-none g i j = out-no 0 g i j (λ e. omega arith)
@@ -211,11 +198,6 @@ answer-all {k} {l} {g} {y} {z} {m} S A = record {
     limit = λ i hi f. A .solved .row-limit i hi;
   }) (λ i hi. refl) (S .gains);
 }
-
--- ---- the weight of an answer
-
-pub heaviest-solved : {k l : ℕ} {g : ℕ → ℕ → ℕ} {y z m : ℕ → ℕ} {r : ℕ} → Solved k l g y z m → Total k l y z r → Heaviest k l g r
-heaviest-solved {y = y} {z = z} {m = m} S N = record { y = y; z = z; m = m; dual = record { feasible = S .feasible; injective = S .injective; equal = S .equal }; total = N .equal }
 
 -- ---- without the column that choice c leaves out
 

@@ -3,16 +3,16 @@ use mathlib.Core.Path.{_≡_, refl, sym, ap, _∙_, subst}
 use mathlib.Core.Logic.{inl}
 use mathlib.Core.Bool.{true, false}
 use mathlib.Core.List.{List}
-use Prim.Native.Nat.{ℕ, zero, suc, _+_, _-_, _*_, _/_, _%_, _≤_, _<_, min}
+use Prim.Native.Nat.{ℕ, suc, _+_, _-_, _*_, _/_, _%_, _≤_, _<_, min}
 use native.Mathlib.Omega.{arith}
 use native.Mathlib.Numerals.{add-one}
-use native.Mathlib.Nat.{div-add-mod', mod-lt, add-zero, le-min, min-le-left, min-le-right}
+use native.Mathlib.Nat.{div-add-mod', add-zero, le-min, min-le-left, min-le-right}
 use lib.Arith.{digits-div, digits-mod}
-use lib.ListN.{length, getD, set, length-set}
+use lib.ListN.{length, getD}
 use lib.Dec.{T, eqb}
 use lib.IntN.{ℤ}
 use Rattle.foundations.specs.Members.{mem, mem-there, mem-ne, getD-mem, del, del-mem}
-use Rattle.model.specs.Limits.{forbidden, widthLimit, degreeLimit}
+use Rattle.model.specs.Limits.{forbidden, degreeLimit}
 use Rattle.model.specs.Weights.{isForbidden, inRange, weighed, stored, plusW}
 use Rattle.model.specs.Tree.{count}
 use Rattle.model.specs.Graph.{neighbours}
@@ -26,7 +26,7 @@ use Rattle.assignment.specs.Matching.{cell}
 use Rattle.subtrees.specs.Matching.{best-ext}
 use Rattle.subtrees.specs.Filling.{length-fill, fill-more, fill-keeps, solve-forbidden, solve-stored}
 use Rattle.plan.specs.Plan.{degreeIn, offsetIn, orderIn, Ready, Lent, Pair}
-use Rattle.plan.specs.Numbers.{Located, ready-accepted, width-some, width-few, number-u, offsets-are, rest-in, number-v, number-s}
+use Rattle.plan.specs.Numbers.{Located, ready-accepted, number-u, offsets-are, rest-in, number-v, number-s}
 use Rattle.plan.specs.Pairs.{VertexPair, gainAt, Filled, weighed-none, weighed-number, children-few, degree-few}
 use Rattle.solver.specs.Exact.{left-of, best-none}
 use Rattle.solver.specs.Heaviest.{HeaviestMatching, Stands, small-heaviest, heaviest-best}
@@ -147,13 +147,6 @@ module _ {table r f : List ℕ} {plan : List (List ℕ)} (N : Ready table r f pl
 
   -- ---- the vertex of one of a run of u
 
-  pub run-rest : {u rest from n : ℕ} → RowRun r f u rest from n → (i : ℕ) → i < n → rest + i < widthLimit
-  run-rest {u} {rest} {from} R i h =
-      let w = width-few N in
-      let e = R .left i h in
-      let m : (from + i) % width f < width f = mod-lt (from + i) (width-some N) in
-      omega arith
-
   pub run-room : {u rest from n m v : ℕ} → RowRun r f u rest from n → (i : ℕ) → i < n → m ≡ count f → Located (offsetIn plan) m (rest + i) v → (v < count f) × (offsetIn plan v ≤ rest + i) × (rest + i - offsetIn plan v ≤ degreeIn plan v) × (degreeIn plan v ≤ degreeLimit)
   run-room {u} {rest} {from} {n} {m} {v} R i h e l =
       let a = rest-in N (from + i) m v e (rw (R .left i h) l) in
@@ -222,11 +215,6 @@ module _ {table r f : List ℕ} {plan : List (List ℕ)} (N : Ready table r f pl
 
       room : (i : ℕ) → i < c → p % width f + i < width f
       room i hi = omega arith
-
--- one number more
-pub fill-next : (table r f : List ℕ) (work w : List ℤ) (k c : ℕ) (x : ℤ) → w ≡ fill table r f work k c → x ≡ solve table r f (fill table r f work k c) (k + c) → set w (k + c) x ≡ fill table r f work k (c + 1)
-unfolding fill
-fill-next table r f work w k c x e h = rw (add-one c, h, e)
 
 pub fill-none : (table r f : List ℕ) (work : List ℤ) (k : ℕ) → work ≡ fill table r f work k 0
 unfolding fill

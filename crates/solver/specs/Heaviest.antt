@@ -2,7 +2,7 @@
 use mathlib.Core.Path.{_≡_, sym, ap, _∙_}
 use mathlib.Core.Logic.{⊎-elim}
 use mathlib.Core.List.{List}
-use Prim.Native.Nat.{ℕ, zero, suc, _+_, _*_, _≤_, _<_, _^_}
+use Prim.Native.Nat.{ℕ, _+_, _*_, _≤_, _<_, _^_}
 use native.Mathlib.Omega.{arith}
 use lib.ListN.{length, getD}
 use lib.Dec.{eqb}
@@ -15,7 +15,7 @@ use Rattle.model.specs.Limits.{degreeLimit}
 use Rattle.model.specs.Weights.{Weight, some}
 use Rattle.model.specs.Values.{best}
 use Rattle.integers.specs.Results.{gainMost}
-use Rattle.assignment.specs.Matching.{at, outOf, out-yes, out-no, gained, weight}
+use Rattle.assignment.specs.Matching.{outOf, out-yes, out-no, gained, weight}
 use Rattle.assignment.specs.State.{Sized, Heaviest}
 use Rattle.plan.specs.Pairs.{upW}
 use Rattle.solver.specs.Exact.{branchGain, Gains, solved-best}

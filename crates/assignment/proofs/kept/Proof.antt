@@ -1,5 +1,4 @@
 -- `assignment::kept` meets its contract. Assumes nothing.
-use mathlib.Core.Path.{sym}
 use borrow.Author.Tests.{eq-eqb, ne-eqb}
 use borrow.Author.Needs.{needs}
 use Rattle.assignment.proofs.kept.Statement.{statement}

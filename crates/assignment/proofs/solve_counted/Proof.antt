@@ -1,5 +1,4 @@
 -- `assignment::solve_counted` meets its contract. The invariant: the rows below r are finished, by r searches. Assumes nothing.
-use mathlib.Core.Path.{refl}
 use Prim.Native.Nat.{_-_, _≤_}
 use mathlib.Core.Path.{ap, _∙_}
 use native.Mathlib.Omega.{arith}

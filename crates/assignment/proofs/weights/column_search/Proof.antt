@@ -1,5 +1,5 @@
 -- `column_search` meets its contract. The invariant: the greatest gain of the rows passed, and the column passed so far. Assumes nothing.
-use Prim.Native.Nat.{_+_, _-_, _≤_, _<_}
+use Prim.Native.Nat.{_-_, _≤_, _<_}
 use Rattle.model.specs.Limits.{degreeLimit}
 use native.Mathlib.Omega.{arith}
 use borrow.Author.Needs.{needs}

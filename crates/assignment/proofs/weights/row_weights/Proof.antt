@@ -1,5 +1,5 @@
 -- `row_weights` meets its contract. The invariant: the two greatest gains of the columns passed, and the row tried so far. Assumes nothing.
-use Prim.Native.Nat.{_+_, _-_, _≤_, _<_}
+use Prim.Native.Nat.{_-_, _≤_, _<_}
 use Rattle.model.specs.Limits.{degreeLimit}
 use native.Mathlib.Omega.{arith}
 use borrow.Author.Needs.{needs}

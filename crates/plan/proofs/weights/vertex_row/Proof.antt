@@ -1,5 +1,4 @@
 -- `vertex_row` meets its contract. Assumes nothing.
-use mathlib.Core.Path.{_∙_}
 use native.Mathlib.Omega.{arith}
 use Rattle.plan.specs.Numbers.{ready-accepted}
 use Rattle.plan.specs.Pairs.{label-recorded, low-recorded}
