@@ -10,20 +10,19 @@ use Rattle.model.specs.Order.{subproblems}
 use Rattle.model.specs.Values.{fill}
 use Rattle.model.specs.Jobs.{startItem}
 use Rattle.assignment.specs.Matching.{at}
-use Rattle.assignment.specs.Counts.{searches}
+use Rattle.assignment.specs.Counts.{searches, Searches}
 use Rattle.solver.specs.Bound.{searchMost}
-use Rattle.solver.specs.ByPairs.{PairSearches}
 use Rattle.searches.specs.declared.pairs.Tally.{Tally}
 use Rattle.searches.specs.Bounds.{boundTo}
 
--- The answer is the first item of a start that applies. Where one does, nothing is changed; else all work numbers are filled, and the searches that
--- this takes are counted from 0: of each pair of vertices no more than its bound, and no pair of places more often than searches.
+-- The answer is the first item of a start that applies. Where one does, nothing is changed; else all work numbers are filled, and from 0 at most
+-- `searchMost` searches are counted, and no pair of places more often than searches.
 pub record CountCall (table recorded found : List ℕ) (work : List ℤ) (counts : List ℕ) (work′ : List ℤ) (counts′ : List ℕ) (answer : ℕ) : Type 0 where
   pub number : answer ≡ startItem table recorded found work
   pub work-kept : answer ≢ 0 → work′ ≡ work
   pub counts-kept : answer ≢ 0 → counts′ ≡ counts
   pub filled : answer ≡ 0 → work′ ≡ fill table recorded found work 0 (subproblems recorded found)
-  pub counted : answer ≡ 0 → PairSearches recorded found 0 (subproblems recorded found) (replicate (pairLimit + 1) 0) counts′
+  pub counted : answer ≡ 0 → Searches (searchMost recorded found 0 (subproblems recorded found)) (replicate (pairLimit + 1) 0) counts′
 
 -- The same pair by pair: all searches added up are no more than the bounds of all pairs, which add up to `searchMost`.
 pub record TallyCall (table recorded found : List ℕ) (work work′ : List ℤ) (t : Tally) : Type 0 where

@@ -18,10 +18,9 @@ use Rattle.plan.specs.Numbers.{Located, ready-sound, width-some, offset-width, 
 use Rattle.plan.specs.Pairs.{children-few, degree-few}
 use Rattle.assignment.specs.Loops.{far}
 use Rattle.assignment.specs.Matching.{at}
-use Rattle.assignment.specs.Counts.{searches, added, none-countable}
+use Rattle.assignment.specs.Counts.{searches, Searches, added, none-countable}
 use Rattle.solver.specs.FillLaws.{RowRun, PairRun, row-run, pair-run}
-use Rattle.solver.specs.Bound.{pairMost}
-use Rattle.solver.specs.ByPairs.{PairSearches, pairs-searches}
+use Rattle.solver.specs.Bound.{pairMost, searchMost}
 use Rattle.searches.specs.declared.pairs.Tally.{Tally}
 use Rattle.searches.specs.Bounds.{boundTo, most-whole, bound-next, bound-few}
 use Rattle.searches.specs.Calls.{PairCounts, Tallied}
@@ -64,10 +63,10 @@ module _ {table r f : List ℕ} {plan : List (List ℕ)} (N : Ready table r f pl
   -- ---- a pair's counts
 
   module _ {u v from : ℕ} (P : PairRun r f u v 0 from (length (neighbours f v) + 1)) where
-    pub pair-counts : (counts : List ℕ) → PairSearches r f from (length (neighbours f v) + 1) (replicate (pairLimit + 1) 0) counts → (searches counts ≤ pairMost r f u v) × PairCounts counts
+    pub pair-counts : (counts : List ℕ) → Searches (searchMost r f from (length (neighbours f v) + 1)) (replicate (pairLimit + 1) 0) counts → (searches counts ≤ pairMost r f u v) × PairCounts counts
     pair-counts counts S =
         let Z = none-countable far (omega arith) in
-        let A = added (pairs-searches S) in
+        let A = added S in
         let few : searches counts ≤ pairMost r f u v = omega (arith, A .few, Z .limit, most-whole N P) in (
           few,
           record {

@@ -41,11 +41,6 @@ unfoldable pub searchMost : List ℕ → List ℕ → ℕ → ℕ → ℕ
 searchMost r f from zero = 0
 searchMost r f from (suc n) = cond (begins f from) 0 (mostAt r f from) + sum (suc n) (λ i. cond (begins f (from + i)) (mostAt r f (from + i)) 0)
 
--- how many searches subproblem `from + n` may take in a run that begins with `from`: those of its pair where it is the first of them in the run, else none
-unfoldable pub allowed : List ℕ → List ℕ → ℕ → ℕ → ℕ
-allowed r f from zero = mostAt r f from
-allowed r f from (suc n) = cond (begins f (from + suc n)) (mostAt r f (from + suc n)) 0
-
 -- ---- adding up
 
 within : List ℕ → List ℕ → ℕ → ℕ
@@ -71,12 +66,6 @@ both r f k = go (begins f k)
     go : (b : Bool) → cond b 0 (mostAt r f k) + cond b (mostAt r f k) 0 ≡ mostAt r f k
     go true = omega arith
     go false = omega arith
-
--- one subproblem more
-pub most-next : (r f : List ℕ) (from n : ℕ) → searchMost r f from n + allowed r f from n ≡ searchMost r f from (suc n)
-unfolding allowed begun sum
-most-next r f from zero = omega (arith, most-zero r f from, most-some r f from 1 (omega arith), both r f from, ap (begun r f) (add-zero from))
-most-next r f from (suc n) = omega (arith, most-some r f from (suc n) (omega arith), most-some r f from (suc (suc n)) (omega arith))
 
 -- one pair, whole or in part
 pub most-pair : {r f : List ℕ} {u v q from n : ℕ} → PairRun r f u v q from n → 1 ≤ n → pairMost r f u v ≤ searchMost r f from n

@@ -6,5 +6,4 @@ pub mod Choice
 pub mod Branches
 pub mod FillLaws
 pub mod Bound
-pub mod ByPairs
 pub mod Mates

@@ -30,7 +30,6 @@ ghost use Rattle.solver.specs.Branches.{SharedOf};
 ghost use Rattle.solver.specs.FillLaws.{RowRun, PairRun};
 ghost use Rattle.solver.specs.Numbers.{written, PairTable, Numbers};
 ghost use Rattle.solver.specs.Bound.{pairMost, searchMost};
-ghost use Rattle.solver.specs.ByPairs.{PairSearches};
 
 // The same number count times.
 fn repeat(work: &mut [i32], x: i32, from: usize, count: usize)
@@ -157,7 +156,7 @@ fn fill_row(
     requires { ⌜ RowRun (now recorded) (now found) u (run .first) (run .from) (run .count) ⌝ }
     requires { ⌜ length (now g) ≡ pairLimit ⌝ }
     requires { ⌜ Countable (searchMost (now recorded) (now found) (run .from) (run .count)) (now counts) ⌝ }
-    ensures { λ _. ⌜ (now (work .exit) ≡ fill (now (table .entry)) (now (recorded .entry)) (now (found .entry)) (now (work .entry)) (run .from) (run .count)) × (length (now (g .exit)) ≡ pairLimit) × (PairSearches (now (recorded .entry)) (now (found .entry)) (run .from) (run .count) (now (counts .entry)) (now (counts .exit))) ⌝ }
+    ensures { λ _. ⌜ (now (work .exit) ≡ fill (now (table .entry)) (now (recorded .entry)) (now (found .entry)) (now (work .entry)) (run .from) (run .count)) × (length (now (g .exit)) ≡ pairLimit) × (Searches (searchMost (now (recorded .entry)) (now (found .entry)) (run .from) (run .count)) (now (counts .entry)) (now (counts .exit))) ⌝ }
 {
     let of = shared_of(table, recorded, found, plan, u);
     let m = vertex_count(found);
@@ -197,7 +196,7 @@ pub fn fill_counted(
     requires { ⌜ Lent (now recorded) (now found) (now work) ⌝ }
     requires { ⌜ from + count ≤ subproblems (now recorded) (now found) ⌝ }
     requires { ⌜ Countable (searchMost (now recorded) (now found) from count) (now counts) ⌝ }
-    ensures { λ _. ⌜ (now (work .exit) ≡ fill (now (table .entry)) (now (recorded .entry)) (now (found .entry)) (now (work .entry)) from count) × (PairSearches (now (recorded .entry)) (now (found .entry)) from count (now (counts .entry)) (now (counts .exit))) ⌝ }
+    ensures { λ _. ⌜ (now (work .exit) ≡ fill (now (table .entry)) (now (recorded .entry)) (now (found .entry)) (now (work .entry)) from count) × (Searches (searchMost (now (recorded .entry)) (now (found .entry)) from count) (now (counts .entry)) (now (counts .exit))) ⌝ }
 {
     let width = width_of(found);
     let mut g = [0u64; Limits::PAIRS];
