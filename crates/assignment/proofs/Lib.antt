@@ -1,4 +1,5 @@
--- The theorems behind the functions' proofs, each file over those before it: weak duality, a search's steps on functions, the same with duals written at its end, the small loops, the turns on arrays, the start and the ends, and computed examples.
+-- The theorems behind the functions' proofs, each file over those before it: weak duality, a search's steps on functions, the same with duals written at
+-- its end, the small loops, the turns on arrays, the start and the ends, and computed examples.
 pub mod Duality
 pub mod Steps
 pub mod Runs

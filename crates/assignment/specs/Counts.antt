@@ -1,4 +1,5 @@
--- Counting: how often each pair of a row and a column was looked at, at row * degreeLimit + column, and after these how many searches there were. Assumes nothing.
+-- Counting: how often each pair of a row and a column was looked at, at row * degreeLimit + column, and after these how many searches there were.
+-- Assumes nothing.
 use mathlib.Core.Path.{_≡_, refl, sym, subst, _∙_}
 use mathlib.Core.Logic.{_⊎_, inl, inr, ⊎-elim, _≢_}
 use mathlib.Core.List.{List}

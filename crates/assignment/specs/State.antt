@@ -31,7 +31,8 @@ pub record Blank (z m : List ℕ) : Type 0 where
 pub record Bytes (l : ℕ) (m : List ℕ) : Type 0 where
   pub range : (x : ℕ) → x < degreeLimit → (at m x < l) ⊎ (at m x ≡ degreeLimit)
 
--- Row duals y, column duals z and the column m of each row, where `finished` says which rows are finished. Other rows are pending: they have no column, and their duals mean nothing.
+-- Row duals y, column duals z and the column m of each row, where `finished` says which rows are finished. Other rows are pending: they have no column,
+-- and their duals mean nothing.
 pub record State (k l : ℕ) (g : ℕ → ℕ → ℕ) (finished : ℕ → Bool) (y z m : ℕ → ℕ) : Type 0 where
   pub feasible : (i j : ℕ) → i < k → finished i ≡ true → j < l → g i j ≤ y i + z j
   pub tight : (i : ℕ) → i < k → m i < l → g i (m i) ≡ y i + z (m i)
@@ -59,7 +60,8 @@ pub record Pending (k l r : ℕ) (g : ℕ → ℕ → ℕ) (y z m : ℕ → ℕ)
 pub record Joined (k l r : ℕ) (g : ℕ → ℕ → ℕ) (y z m y′ z′ m′ : ℕ → ℕ) : Type 0 where
   pub state : (p : Pending k l r g y z m) → State k l g (also r (p .finished)) y′ z′ m′
 
--- The answer: duals that cover every gain, tight at the matched pairs and 0 at rows and columns that are not matched, so that their sum is the matching's weight, and no matching weighs more.
+-- The answer: duals that cover every gain, tight at the matched pairs and 0 at rows and columns that are not matched, so that their sum is the
+-- matching's weight, and no matching weighs more.
 pub record Solved (k l : ℕ) (g : ℕ → ℕ → ℕ) (y z m : ℕ → ℕ) : Type 0 where
   pub feasible : (i j : ℕ) → i < k → j < l → g i j ≤ y i + z j
   pub tight : (i : ℕ) → i < k → m i < l → g i (m i) ≡ y i + z (m i)

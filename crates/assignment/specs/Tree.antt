@@ -12,7 +12,8 @@ use Rattle.assignment.specs.Matching.{at, entry, gainLimit, Injective, H
 use Rattle.assignment.specs.State.{State, Sized, Lengths, Bytes, Pending, Joined, Solved, Answer, but}
 use Rattle.assignment.specs.Loops.{OwnersOf, Nearest}
 
--- a is a matching of the columns of m in which row t has none, and the root has one. Rows outside the tree have what they have in m, and rows of the tree have tight columns of the tree.
+-- a is a matching of the columns of m in which row t has none, and the root has one. Rows outside the tree have what they have in m, and rows of the
+-- tree have tight columns of the tree.
 pub record Alternative (k l : ℕ) (g : ℕ → ℕ → ℕ) (y z m T C : ℕ → ℕ) (t : ℕ) (a : ℕ → ℕ) : Type 0 where
   pub own : l ≤ a t
   pub same : (i : ℕ) → i < k → T i ≢ 1 → a i ≡ m i
@@ -59,7 +60,9 @@ marked T x i = cond (eqb (T i) 1) x 0
 pub record Balance (k l : ℕ) (T C : ℕ → ℕ) : Type 0 where
   pub even : (x : ℕ) → sum k (marked T x) ≡ x + sum l (marked C x)
 
--- A search under way. The duals y and z in the arrays are those at its start; its own Y and Z are lower on tree rows and higher on tree columns. A row joined at distance J i and a column at W j, and D is the distance now, so a tree row's dual is y i + J i - D, a tree column's z j + D - W j, and the slack of a column outside W j - D. The sum of all duals has fallen by D. Duals are written to the arrays once, at the end.
+-- A search under way. The duals y and z in the arrays are those at its start; its own Y and Z are lower on tree rows and higher on tree columns. A row
+-- joined at distance J i and a column at W j, and D is the distance now, so a tree row's dual is y i + J i - D, a tree column's z j + D - W j, and the
+-- slack of a column outside W j - D. The sum of all duals has fallen by D. Duals are written to the arrays once, at the end.
 pub record Run (k l r : ℕ) (g : ℕ → ℕ → ℕ) (finished : ℕ → Bool) (D : ℕ) (y z m T C W F J : ℕ → ℕ) (A : ℕ → ℕ → ℕ) : Type 0 where
   pub Y : ℕ → ℕ
   pub Z : ℕ → ℕ

@@ -70,7 +70,7 @@ fn who_of(new: u64, old: u64, t: u8, f: u8) -> u8
     if new < old { t } else { f }
 }
 
-fn place_of(new: u64, old: u64, j: usize, b: usize) -> usize
+pub(crate) fn place_of(new: u64, old: u64, j: usize, b: usize) -> usize
     ensures { λ r. ⌜ r ≡ whoOf new old j b ⌝ }
 {
     if new < old { j } else { b }
@@ -149,7 +149,7 @@ pub(crate) fn look_first(
     }
 }
 
-// The distances after row o joined the tree, and the nearest column outside.
+// The distances after row t joined the tree, and the nearest column outside.
 pub(crate) fn look(
     counts: &mut Counts,
     dist: &mut WideRow,
@@ -325,7 +325,7 @@ fn explore(
 // Row r, which is pending, joins the finished rows, whichever they are. Its dual starts at the limit, which covers every gain, so
 // that its gains are looked at once. Nothing is left to do where the columns' duals cover r, or its nearest column is free.
 // `own` has the row of each column, before and after. The search is counted, and so is each pair that it looks at: none twice.
-pub(crate) fn search(
+fn search(
     counts: &mut Counts,
     g: &Gains,
     k: usize,
@@ -361,7 +361,8 @@ pub(crate) fn search(
     *own = owners(m, k);
 }
 
-// The heaviest matching of k rows and l columns with its duals, one search for each row. No row has a column yet.
+// The heaviest matching of k rows and l columns with its duals for choice c, one search for each row. No row has a column yet. `own`
+// has the row of each column, beside `m`.
 pub(crate) fn solve_counted(
     counts: &mut Counts,
     g: &Gains,
@@ -384,7 +385,7 @@ pub(crate) fn solve_counted(
     }
 }
 
-// The same where no one asks for the counts or for the row of a column.
+// The same where neither the counts nor the row of each column is asked for. The counts are lent for the work.
 pub fn solve_without(
     counts: &mut Counts,
     g: &Gains,

@@ -1,5 +1,5 @@
-//! The weight of the heaviest matching without one column, from the answer of all columns: the row that has the column is made pending and joins again by one
-//! search. Only how far the search goes is wanted, so it writes nothing but its counts.
+//! The weight of the heaviest matching without one column, from the answer of all columns: the row that has the column is made pending and
+//! joins again by one search. Only how far the search goes is wanted, so it writes nothing that is lent but the counts.
 use crate::Counts;
 use crate::FREE;
 use crate::GAIN_LIMIT;
@@ -41,6 +41,7 @@ fn distance(
     counts[SEARCHES] += 1;
     let mut dist = [0u64; Limits::PLACES];
     let near = look_first(counts, &mut dist, g, z, l, c, r);
+    // kept by `look`; nothing here asks for it
     let mut from = [byte(r); Limits::PLACES];
     let mut col = [0u8; Limits::PLACES];
     let mut low = GAIN_LIMIT;

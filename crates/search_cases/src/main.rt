@@ -1,6 +1,7 @@
 //! Counts the path searches for the plants on standard input, one after the other: two bytes, the length with its low byte first, and as many bytes of a
 //! table and two trees. Prints a line for each: the searches and the most that there can be, the looks, how many pairs of vertices reach their own bound,
-//! the most searches that a pair takes, and whether the count of all and the tally by pairs agree. Or `refused` and the number of the item.
+//! the most searches that a pair takes, and whether the count of all and the tally by pairs, both by the same code, agree. Or `refused` and the
+//! number of the item.
 //!
 //! The stored plants: single vertices, single edges, paths of three from the middle, stars of degree 8, equal paths, all these of one label and weight 1;
 //! random trees, hubs in a row and balanced hubs, with random labels and weights; balanced hubs of one label; a found star of degree 9.

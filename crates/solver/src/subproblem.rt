@@ -36,8 +36,8 @@ ghost use Rattle.model.specs.Graph.{neighbours};
 ghost use Rattle.model.specs.Limits.{vertexLimit, pairLimit};
 ghost use Rattle.model.specs.Order.{children};
 
-// What the pairs of recorded vertex u with any v share: u's children and how many work numbers stand for each of them, where the weights of its label begin
-// in the table, and its serial.
+// What the pairs of recorded vertex u with any v share: how many children u has, how many work numbers stand for each recorded
+// vertex, where the weights of u's label begin in the table, and its serial.
 pub struct Shared {
     pub u: u8,
     pub count: usize,

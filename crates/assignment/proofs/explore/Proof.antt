@@ -1,4 +1,5 @@
--- `assignment::explore` meets its contract. The invariant is `Turn` and `Tries`; the columns outside the tree become fewer with each turn. What a turn keeps is in `Turns`. Assumes nothing.
+-- `assignment::explore` meets its contract. The invariant is `Turn` and `Tries`; the columns outside the tree become fewer with each turn. What a turn
+-- keeps is in `Turns`. Assumes nothing.
 use native.Mathlib.Omega.{arith}
 use borrow.Author.Needs.{needs}
 use Rattle.assignment.specs.Tree.{Turn, outside}
