@@ -1,8 +1,8 @@
 //! The baseline of the proved calls: the match in one call, and the job in slices, in plain Rust written for speed. Each call reads and tests
 //! the bytes, solves its subproblems in the order of paper 01, and reads out the mapping that the proved library reads out. Weights and
 //! neighbours stand in fixed arrays that are built once; the gains of a pair of vertices are built once for all choices of s. Each matching
-//! is solved afresh by the textbook Hungarian method (row by row, potentials, slack array). Only the read-out searches as the proved library
-//! does, to choose the same of several heaviest matchings.
+//! is solved afresh by the textbook Hungarian method (row by row, potentials, slack array). Only the read-out, and a certificate's duals,
+//! search as the proved library does: the read-out to choose the same of several heaviest matchings.
 
 use pensummer::{VALUE_MOST, WEIGHT_MOST};
 
