@@ -24,10 +24,11 @@ pub record CountCall (table recorded found : List ℕ) (work : List ℤ) (counts
   pub filled : answer ≡ 0 → work′ ≡ fill table recorded found work 0 (subproblems recorded found)
   pub counted : answer ≡ 0 → Searches (searchMost recorded found 0 (subproblems recorded found)) (replicate (pairLimit + 1) 0) counts′
 
--- The same pair by pair: all searches added up are no more than the bounds of all pairs, which add up to `searchMost`.
+-- The same pair by pair: all searches added up are no more than the bounds of all pairs, which add up to `searchMost`. Where an item applies nothing is counted.
 pub record TallyCall (table recorded found : List ℕ) (work work′ : List ℤ) (t : Tally) : Type 0 where
   pub number : t .item ≡ startItem table recorded found work
   pub work-kept : t .item ≢ 0 → work′ ≡ work
+  pub refused : t .item ≢ 0 → (t .searches ≡ 0) × (t .most ≡ 0) × (t .looks ≡ 0) × (t .reached ≡ 0) × (t .greatest ≡ 0)
   pub filled : t .item ≡ 0 → work′ ≡ fill table recorded found work 0 (subproblems recorded found)
   pub few : t .searches ≤ t .most
   pub bound : t .item ≡ 0 → t .most ≡ searchMost recorded found 0 (subproblems recorded found)

@@ -29,6 +29,7 @@ returns c =
     record {
       number = e .0 ∙ c .before .before .start-item .ensures;
       work-kept = λ n. refl;
+      refused = λ n. (e .1, e .2, e .3, e .4, e .5);
       filled = λ z. absurd (some (sym (e .0) ∙ z));
       few = omega (arith, e .1);
       bound = λ z. absurd (some (sym (e .0) ∙ z));
@@ -60,6 +61,7 @@ returns-2 c =
     record {
       number = t .passed ∙ sym (zero e);
       work-kept = λ n. absurd (n (t .passed));
+      refused = λ n. absurd (n (t .passed));
       filled = λ z. at-all .tally-all .ensures .0;
       few = t .few;
       bound = λ z. t .bound ∙ sym (bound-all N (subproblems (a .recorded .now) (a .found .now)));
