@@ -23,6 +23,7 @@ ghost use Rattle.assignment.specs.Tree.{Vacant, Reached, Solution};
 ghost use Rattle.assignment.specs.Counts.{Search, Countable};
 
 // How far the search from row r goes, which is the only pending row, for choice c: the distance at which it ends, as in `search`.
+// (k, the number of rows, is there for the contract alone.)
 fn distance(
     counts: &mut Counts,
     g: &Gains,
