@@ -1,4 +1,6 @@
 //! Neighbours as a row of places for each vertex, and in the same places what is seen of the edges to them: label and direction in one number.
+#![tactic(auto)]
+
 ghost use Rattle.std.specs.Prelude.{◌<◌, min, replicate, ◌≡◌};
 ghost use Rattle.foundations.specs.Lists.{tab};
 ghost use Rattle.model.specs.Limits.{edge_label_limit, vertex_limit, degree_limit, no_vertex};

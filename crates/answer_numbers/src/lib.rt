@@ -1,4 +1,6 @@
 //! The answers and the caller's record of a job as numbers, which C can hold.
+#![tactic(auto)]
+
 pub mod certificate_numbers;
 pub mod job_numbers;
 pub mod size_numbers;

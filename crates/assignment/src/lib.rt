@@ -3,6 +3,8 @@
 //! duals `y` of rows and `z` of columns show that no matching is heavier: their sums cover every gain, and the sum of all is the matching's
 //! weight. `m` has the column of each row, or `FREE`. A choice c leaves a column out: none for 0, else column c - 1. `weights` has the weight for
 //! each choice, and `rest` that without one column. The definitions are in `specs/`.
+#![tactic(auto)]
+
 pub mod rest;
 pub mod weights;
 

@@ -3,6 +3,7 @@
 //! Of each answer it checks the weight, that the pairs handed on make it up, that they are distinct, and that the duals cover
 //! every gain; then the weight for each choice, all columns and without each. It prints how many it compared and how many were right,
 //! and how many searches there were for the weights, of how many at most.
+#![tactic(auto)]
 
 ghost use Rattle.std.specs.Prelude.{ℕ, ◌+◌, ◌*◌, ◌<◌, ◌≤◌};
 ghost use Rattle.model.specs.Limits.{degree_limit, pair_limit};

@@ -1,4 +1,5 @@
 //! The assignment for `bench/`: an archive exports only the functions of its own crate.
+#![tactic(auto)]
 
 ghost use Rattle.std.specs.Prelude.{◌≡◌};
 ghost use Rattle.assignment.specs.Matching.{cell, best, all};

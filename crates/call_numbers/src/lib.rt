@@ -1,4 +1,6 @@
 //! The calls as numbers: the covered core of the C interface. `pensummer` holds the functions that a C program finds, each thin over one of these.
+#![tactic(auto)]
+
 pub mod certificate_numbers;
 pub mod job_numbers;
 pub mod size_numbers;

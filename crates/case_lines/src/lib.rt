@@ -1,4 +1,6 @@
 //! Lines of test cases: a name, a colon, a word, and bytes in hexadecimal. For the programs that run cases through the library.
+#![tactic(auto)]
+
 ghost use Rattle.std.specs.Prelude.{◌≤◌, ◌<◌, length};
 ghost use Rattle.case_lines.specs.Line.{Between, Cut};
 

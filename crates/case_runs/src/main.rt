@@ -1,6 +1,8 @@
 //! Runs cases through the match, one to a line of standard input: a name, a colon, `input`, and the match program's input in hexadecimal.
 //! Prints each name, a colon, and on the lines below it what the match program prints for that input. The expected output follows from the
 //! papers' rules: a heaviest mapping is the only one, but where a name says `one of`; there it is the program's choice among as many as the name says.
+#![tactic(auto)]
+
 ghost use Rattle.std.specs.Prelude.{◌<◌, ◌≤◌, length};
 ghost use Rattle.case_lines.specs.Line.{Onward};
 

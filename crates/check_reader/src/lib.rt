@@ -1,6 +1,8 @@
 //! The certificate's check with a reader that carries the certificate along and goes from record to record (paper 01, "The sheet"): two walks, each a loop over
 //! a plain step on the bytes and a number, `mark_step` and `rule_step`. The items are tested in their order. `check_certificate` takes byte buffers from C;
 //! an archive has its own crate's functions only, so that a C program finds it as `pensummer_check` (crates/pensummer).
+#![tactic(auto)]
+
 ghost use Rattle.std.specs.Prelude.{◌≡◌};
 ghost use Rattle.foundations.specs.Lists.{every};
 ghost use Rattle.model.specs.Certificate.{subproblem_ok, check_of};

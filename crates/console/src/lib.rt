@@ -1,4 +1,6 @@
 //! The match program's work on one input: the parts of the input, the match, and what is printed of it.
+#![tactic(auto)]
+
 ghost use Rattle.std.specs.Prelude.{◌≤◌, ◌≡◌, length};
 ghost use Rattle.model.specs.Tree.{count};
 ghost use Rattle.model.specs.Input.{table_part, recorded_part, found_part};

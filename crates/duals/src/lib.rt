@@ -1,5 +1,7 @@
 //! The duals of subproblems (the paper's bounds), as the writer of a certificate needs them: the gains of a pair of vertices once, and from them the
 //! duals for each choice of s.
+#![tactic(auto)]
+
 ghost use Rattle.std.specs.Prelude.{◌≡◌, length};
 ghost use Rattle.model.specs.Limits.{pair_limit};
 ghost use Rattle.plan.specs.Plan.{Ready, Lent, Pair};

@@ -1,4 +1,6 @@
 //! Readers over bytes: why a table or a tree is refused (items 1 to 12, 25 and 26), and what stands in them.
+#![tactic(auto)]
+
 pub mod bytes;
 pub mod inputs;
 pub mod marks;

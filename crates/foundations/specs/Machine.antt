@@ -42,7 +42,7 @@ pub ruleset machine = (back_32, back_64, back_sum)
 
 -- of a call's signed result, and of an element of a slice of signed numbers, a need is handed the bound alone (`c.f.ok`, `c.x.given`)
 pub back : {z : ℤ} → mag z < 2147483648 → to_z w32 (of_z w32 z) ≡ z
-back h = to_z-of_z (record { sfits = h })
+back h = to_z-of_z {w = w32} (record { sfits = h })
 
 -- what is read back from z's bits is z. At a need: `let a : Same z = search needs in`, for any signed z that the place knows
 abbrev pub Same : ℤ → Type 0

@@ -171,7 +171,7 @@ pub length_del : (v : ℕ) (l : List ℕ) → Distinct l → T (mem v l) → len
 unfolding del
 length_del v [] d t = absurd (mem_nil v t)
 length_del v (x ∷ l) d t = ⊎_elim
-    (λ e. rw e.1 (rw (e.0, del_out x l d.0) (omega arith)))
+    (λ e. let q : del v l ≡ l = ap (λ w. del w l) e.0 ∙ del_out x l d.0 in rw (e.1, q) (omega arith))
     (λ e. rw e.1 (⊎_elim (λ q. absurd (e.0 q)) (λ q. let i = length_del v l d.1 q in omega arith) (mem_cases v x l t)))
     (same v x)
 
@@ -218,7 +218,7 @@ unfolding lsum del
 lsum_del v [] b h t = absurd (mem_nil v t)
 lsum_del v (x ∷ l) b h t =
     ⊎_elim
-    (λ e. rw (e.1, e.0) (+ℤ_mono (≤ℤ_refl (b x)) (lsum_del_le x l b (λ y t. h y (mem_there y x l t)))))
+    (λ e. rw e.1 (subst (λ w. (b w +ℤ lsum (del w l) b) ≤ℤ (b x +ℤ lsum l b)) (sym e.0) (+ℤ_mono (≤ℤ_refl (b x)) (lsum_del_le x l b (λ y t. h y (mem_there y x l t))))))
     (λ e. rw e.1 (⊎_elim
     (λ q. absurd (e.0 q))
     (λ m. let i = lsum_del v l b (λ y t. h y (mem_there y x l t)) m in omega (int, plus (b x) (lsum (del v l) b)))

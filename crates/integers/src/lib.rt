@@ -1,4 +1,6 @@
 //! Leaf functions on 32-bit integers: bytes to a weight or a serial and back, the tests of a weight, and the arithmetic of one subproblem. The lesser of two lengths.
+#![tactic(auto)]
+
 ghost use Rattle.std.specs.Prelude.{◌≡◌, true, ◌+◌, ◌≤◌, ◌<◌, ◌^◌, min, length};
 ghost use Rattle.foundations.specs.Int.{up};
 ghost use Rattle.model.specs.Bytes.{word, word_at, signed32, bits32, int32, int32_at, put_word, put_int32};

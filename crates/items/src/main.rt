@@ -1,5 +1,7 @@
 //! Reads cases from standard input, one to a line: a name, a colon, `table` or `recorded`, and bytes in hexadecimal. Prints each name and the
 //! number of the item that turns the bytes down, 0 for none. A tree is read with K = 2 and L = 1, and as a found tree too.
+#![tactic(auto)]
+
 ghost use Rattle.std.specs.Prelude.{◌<◌, ◌≤◌, length};
 ghost use Rattle.case_lines.specs.Line.{Onward};
 

@@ -1,4 +1,6 @@
 //! The items that a job's calls test beyond the inputs: 13 to 17. Item 16 is in `work`.
+#![tactic(auto)]
+
 pub mod work;
 
 ghost use Rattle.std.specs.Prelude.{◌≡◌, eqb};

@@ -13,6 +13,8 @@
 //!
 //! The calls are `start_core`, `advance_core` and `finish`: functions that are lent the record by `&mut` have no callers in covered code.
 //! The expected output follows from the papers' rules. A printed mapping is the only one that can be read out of the work numbers.
+#![tactic(auto)]
+
 mod calls;
 
 ghost use Rattle.std.specs.Prelude.{◌<◌, length};

@@ -1,5 +1,7 @@
 //! A job in slices: start, advance and finish (paper 01, "Jobs"), over the record by value. The calls that are lent the record are thin functions over
 //! these: crates/pensummer, job_calls.
+#![tactic(auto)]
+
 mod delivery;
 mod slices;
 

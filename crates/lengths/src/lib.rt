@@ -1,5 +1,7 @@
 //! The length of a record from its mark, by cases (paper 02, [5]), and by name for those who read and write: no record's length is a number anywhere else in
 //! the code.
+#![tactic(auto)]
+
 ghost use Rattle.std.specs.Prelude.{◌≡◌};
 ghost use Rattle.model.specs.Lengths.{tree_head_length, vertex_length, edge_length, table_head_length, vertex_row_length, edge_row_length, serial_vertex_length, certificate_head_length, partner_length, subproblem_length, length_by_mark};
 ghost use Rattle.lengths.specs.Bytes.{bytes_of};

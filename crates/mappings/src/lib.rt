@@ -1,5 +1,7 @@
 //! Mappings: item 21, whether n bytes are one, tested without paths, and a mapping's exact weight (`weigh`). `vertices` tests the pairs of
 //! vertices, `edges` those of edges; a mapping has at most one top, which is a mapped vertex whose parent is not mapped.
+#![tactic(auto)]
+
 mod edges;
 mod vertices;
 pub mod weigh;

@@ -1,6 +1,8 @@
 //! The match program: reads at most 8,192 bytes of standard input, that is a table, a recorded tree and a found tree, and prints the weight of a
 //! heaviest mapping and each recorded vertex's partner, or `refused` and the number of the item that turns the input down. What cannot be printed is said on
 //! standard error: a program of this kit has no exit status of its own.
+#![tactic(auto)]
+
 use console::print_match;
 use model::Limits;
 

@@ -1,4 +1,5 @@
 //! The public constants and answers of the library, and the length of a record. What the bytes, items and orders of the papers mean is in specs/, as definitions.
+#![tactic(auto)]
 
 ghost use Rattle.std.specs.Prelude.{◌≡◌, pos};
 ghost use Rattle.model.specs.Jobs.{fresh_record, total_limit};
@@ -150,22 +151,22 @@ pub enum SizesAnswer {
 
 // Each constant is the number of the definitions: a change of one side alone is refused here.
 fn weights()
-    ensures* do_value { do ⌜ (← (⟦Limits::WEIGHT⟧).exit) ≡ pos weight_limit ⌝ }
-    ensures* do_value_2 { do ⌜ (← (⟦Limits::FORBIDDEN⟧).exit) ≡ forbidden ⌝ }
-    ensures* do_value_3 { do ⌜ (← (⟦Limits::CEILING⟧).exit) ≡ pos ceiling ⌝ }
-    ensures* do_value_4 { do ⌜ (← (⟦JobRecord::TOTAL⟧).exit) ≡ total_limit ⌝ }
+    ensures weight { Limits.WEIGHT ≡ pos weight_limit }
+    ensures forbidden { Limits.FORBIDDEN ≡ forbidden }
+    ensures ceiling { Limits.CEILING ≡ pos ceiling }
+    ensures total { JobRecord.TOTAL ≡ total_limit }
 {}
 
 fn sizes()
-    ensures* do_value { do ⌜ (← (⟦Limits::VERTEX_LABELS⟧).exit) ≡ vertex_label_limit ⌝ }
-    ensures* do_value_2 { do ⌜ (← (⟦Limits::EDGE_LABELS⟧).exit) ≡ edge_label_limit ⌝ }
-    ensures* do_value_3 { do ⌜ (← (⟦Limits::DIRECTED⟧).exit) ≡ directed_from ⌝ }
-    ensures* do_value_4 { do ⌜ (← (⟦Limits::VERTICES⟧).exit) ≡ vertex_limit ⌝ }
-    ensures* do_value_5 { do ⌜ (← (⟦Limits::DEGREE⟧).exit) ≡ degree_limit ⌝ }
-    ensures* do_value_6 { do ⌜ (← (⟦Limits::NONE⟧).exit) ≡ no_vertex ⌝ }
-    ensures* do_value_7 { do ⌜ (← (⟦Limits::ROWS⟧).exit) ≡ vertex_limit ⌝ }
-    ensures* do_value_8 { do ⌜ (← (⟦Limits::PLACES⟧).exit) ≡ degree_limit ⌝ }
-    ensures* do_value_9 { do ⌜ (← (⟦Limits::PREFIXES⟧).exit) ≡ prefix_limit ⌝ }
-    ensures* do_value_10 { do ⌜ (← (⟦Limits::PAIRS⟧).exit) ≡ pair_limit ⌝ }
-    ensures* do_value_11 { do ⌜ (← (⟦Limits::SUBPROBLEMS⟧).exit) ≡ subproblem_limit ⌝ }
+    ensures vertex_labels { Limits.VERTEX_LABELS ≡ vertex_label_limit }
+    ensures edge_labels { Limits.EDGE_LABELS ≡ edge_label_limit }
+    ensures directed { Limits.DIRECTED ≡ directed_from }
+    ensures vertices { Limits.VERTICES ≡ vertex_limit }
+    ensures degree { Limits.DEGREE ≡ degree_limit }
+    ensures none { Limits.NONE ≡ no_vertex }
+    ensures rows { Limits.ROWS ≡ vertex_limit }
+    ensures places { Limits.PLACES ≡ degree_limit }
+    ensures prefixes { Limits.PREFIXES ≡ prefix_limit }
+    ensures pairs { Limits.PAIRS ≡ pair_limit }
+    ensures subproblems { Limits.SUBPROBLEMS ≡ subproblem_limit }
 {}

@@ -1,4 +1,6 @@
 //! The match in one call: its items, solving all subproblems, and reading a heaviest mapping out.
+#![tactic(auto)]
+
 pub mod top;
 
 ghost use Rattle.std.specs.Prelude.{◌≤◌, ◌-◌, ◌≡◌, length};

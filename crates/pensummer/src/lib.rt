@@ -1,4 +1,6 @@
 //! The C interface: what a C or Rust program calls, as numbers, slices and plain structs. The work is done in the other crates.
+#![tactic(auto)]
+
 pub mod certificate_calls;
 pub mod job_calls;
 pub mod size_calls;

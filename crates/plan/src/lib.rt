@@ -1,6 +1,8 @@
 //! The plan of two trees: what a call looks up in them, as rows of eight bytes, made once (crates/planning). A recorded half and a found half, each of
 //! its own tree alone. `specs/Plan.antt` says where a number stands and what it is; nothing above knows where. Beside it the weights of pairs
 //! (`weights`) and the numbers that follow from the vertex counts (`counts`).
+#![tactic(auto)]
+
 pub mod counts;
 pub mod weights;
 

@@ -1,4 +1,6 @@
 //! Making the plan: each half reads its own tree once and leaves the other half as it was.
+#![tactic(auto)]
+
 ghost use Rattle.std.specs.Prelude.{ℕ, ◌+◌, ◌<◌, ◌≤◌, ◌≡◌, get_or, length};
 ghost use Rattle.model.specs.Graph.{neighbour_table};
 ghost use Rattle.model.specs.Limits.{vertex_limit, degree_limit, width_limit};

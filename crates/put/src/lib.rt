@@ -1,4 +1,6 @@
 //! Storing the parts of a certificate: marks, numbers, rows of duals, and the bytes of one record.
+#![tactic(auto)]
+
 pub mod front;
 
 ghost use Rattle.std.specs.Prelude.{◌+◌, ◌*◌, ◌≤◌, pos, length};

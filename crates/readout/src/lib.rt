@@ -1,2 +1,4 @@
 //! Reading a mapping out of work numbers.
+#![tactic(auto)]
+
 pub mod cycle;

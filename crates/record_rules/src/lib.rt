@@ -1,4 +1,6 @@
 //! Item 23: the rules of one record over what was read for it: of a forbidden pair, and of any other, where each branch's gain is covered by its two duals.
+#![tactic(auto)]
+
 pub mod numbers;
 
 ghost use Rattle.std.specs.Prelude.{◌<◌, ◌≡◌, length};

@@ -1,5 +1,7 @@
 //! Where a certificate's records stand: its length, where each row of records begins, and where one record does; going from one record to the next. What a
 //! record has of the neighbours of v: those other than s.
+#![tactic(auto)]
+
 pub mod cursor;
 
 ghost use Rattle.std.specs.Prelude.{◌+◌, ◌*◌, ◌<◌, ◌≤◌, ◌≡◌, length};

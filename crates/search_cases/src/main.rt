@@ -5,6 +5,8 @@
 //!
 //! The stored plants: single vertices, single edges, paths of three from the middle, stars of degree 8, equal paths, all these of one label and weight 1;
 //! random trees, hubs in a row and balanced hubs, with random labels and weights; balanced hubs of one label; a found star of degree 9.
+#![tactic(auto)]
+
 ghost use Rattle.std.specs.Prelude.{◌<◌, ◌≤◌, length};
 
 use assignment::{Counts, SEARCHES};

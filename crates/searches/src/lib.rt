@@ -1,4 +1,6 @@
 //! How many path searches the filling of two trees takes: both calls fill all work numbers and count, one in all, one by pairs of vertices.
+#![tactic(auto)]
+
 pub mod pairs;
 
 ghost use Rattle.searches.specs.Calls.{CountCall, TallyCall};

@@ -1,5 +1,7 @@
 //! How much to lend (paper 02, [1]): the count of subproblems, the work numbers wanted and a certificate's length, from the table and the two trees alone.
 //! Nothing here solves. What the numbers are good for: crates/lending.
+#![tactic(auto)]
+
 ghost use Rattle.std.specs.Prelude.{◌≤◌, ◌≡◌};
 ghost use Rattle.model.specs.Limits.{square_limit, certificate_limit};
 ghost use Rattle.model.specs.Tree.{count};

@@ -1,4 +1,6 @@
 //! Postorder of a tree by its table of neighbours, and each vertex's place in it. The laws of accepted trees are in specs/.
+#![tactic(auto)]
+
 ghost use Rattle.std.specs.Prelude.{ℕ, ◌<◌, List, [], ◌∷◌, ◌++◌};
 ghost use Rattle.foundations.specs.Lists.{Holds};
 ghost use Rattle.trees.specs.Visits.{post, OrderOf, Different, Placed};

@@ -1,4 +1,6 @@
 //! Writing a certificate (the paper's sheet): its items, all work numbers, then the front and a record for each subproblem.
+#![tactic(auto)]
+
 mod record;
 
 ghost use Rattle.std.specs.Prelude.{◌≤◌, length};
