@@ -12,7 +12,7 @@ use integers::lesser;
 use lengths::tree_head_length;
 
 // Where the recorded and the found tree begin.
-#[derive(Drop)]
+#[derive(Clone, Copy)]
 pub struct Parts {
     pub recorded: usize,
     pub found: usize,

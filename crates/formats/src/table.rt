@@ -11,7 +11,7 @@ use lengths::{edge_row_length, table_head_length, vertex_row_length};
 use model::Limits;
 
 // A block of rows: where its first row stands, how many rows it has, each of as many weights, and how many bytes a row has.
-#[derive(Drop)]
+#[derive(Clone, Copy)]
 struct Block {
     start: usize,
     rows: u8,

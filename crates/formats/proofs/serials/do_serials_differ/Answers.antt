@@ -1,0 +1,12 @@
+-- `do_serials_differ` meets its contract. Assumes nothing.
+use mathlib.Core.Path.{sym, ◌∙◌}
+use Rattle.trees.specs.Accepted.{whole, long_some}
+use Rattle.formats.specs.Serials.{none_differ}
+use native.Mathlib.Omega.{arith}
+use Rattle.formats.proofs.serials.do_serials_differ.Goals as goal
+
+pub with_serials-requires : goal.with_serials-requires
+with_serials-requires c = omega (arith, long_some (whole c.requires))
+
+pub returns : goal.returns
+returns c = sym (none_differ _ _ (sym c.with_serials.ensures ∙ c.if-with_serials.false))

@@ -1,0 +1,19 @@
+-- `serials` meets its contract. Assumes nothing.
+use Prim.Native.Nat.{◌-◌}
+use mathlib.Core.Path.{◌≡◌, refl}
+use Rattle.formats.specs.Serials.{serials_none, serials_more}
+use native.Mathlib.Omega.{arith}
+use Rattle.formats.proofs.serials.serials.Goals as goal
+
+pub loop-v-init : goal.loop-v-init
+loop-v-init c =
+    let few = c.requires.few in
+    (omega arith, omega (arith, few), serials_none _ _ refl)
+
+pub loop-v-preserved : goal.loop-v-preserved
+loop-v-preserved c = (omega arith, c.loop-v.invariant.1, serials_more (omega arith) c.loop-v.invariant.2 c.serial_of-x.ensures)
+
+pub returns : goal.returns
+returns c =
+    let e : c.loop-v.v ≡ c.args.n = omega arith in
+    rw e at c.loop-v.invariant.2

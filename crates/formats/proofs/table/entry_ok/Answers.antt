@@ -1,0 +1,8 @@
+-- `entry_ok` meets its contract. Assumes nothing.
+use borrow.Author.Rules.{rules}
+use Rattle.foundations.specs.Machine.{Same}
+use Rattle.formats.proofs.table.entry_ok.Goals as goal
+
+pub returns : goal.returns
+returns c =
+    let b : Same c.weight_in_row.result = search rules in rw (c.weight_ok.ensures, b, c.weight_in_row.ensures)

@@ -1,0 +1,5 @@
+-- `end_a` meets its contract. Assumes nothing.
+use Rattle.formats.proofs.tree.end_a.Goals as goal
+
+pub returns : goal.returns
+returns c = rw c.edge_start.ensures.0
