@@ -1,0 +1,33 @@
+-- `store_vertices` meets its contract. Assumes nothing.
+use Prim.Native.Nat.{◌-◌}
+use mathlib.Core.Path.{◌≡◌}
+use Rattle.planning.specs.Rows.{vertices_none, vertices_more}
+use borrow.Author.Rules.{rules}
+use native.Mathlib.Omega.{arith}
+use Rattle.planning.proofs.store_vertices.Goals as goal
+
+pub vertex_count-n-requires : goal.vertex_count-n-requires
+vertex_count-n-requires c =
+    let e = c.requires.sound.passed.ends in
+    record { some = e.some; few = e.few; long = e.long }
+
+pub loop-v-init : goal.loop-v-init
+loop-v-init c =
+    let few = c.requires.sound.passed.ends.few in
+    (omega arith, search rules, omega (arith, few, c.vertex_count-n.ensures), c.requires.vertex_limit_bound, vertices_none _ _ _ c.requires.plan_len)
+
+pub vertex_label-label-requires : goal.vertex_label-label-requires
+vertex_label-label-requires c = record { ends = rw c.loop-v.invariant.1 c.requires.sound.passed.ends; v_lt_n = omega arith }
+
+pub serial_of-serial-requires : goal.serial_of-serial-requires
+serial_of-serial-requires c = record { ends = rw c.loop-v.invariant.1 c.requires.sound.passed.ends; v_lt_n = omega arith }
+
+pub loop-v-preserved : goal.loop-v-preserved
+loop-v-preserved c =
+    let i = c.loop-v.invariant in
+    (omega arith, i.1, i.2, i.3, vertices_more i.3 (omega arith) i.4 (rw (c.vertex_label-label.ensures, c.serial_of-serial.ensures) at c.vertex_row-row.ensures))
+
+pub returns : goal.returns
+returns c =
+    let e : c.loop-v.v ≡ c.vertex_count-n.result = omega arith in
+    rw (e, c.loop-v.invariant.1) at c.loop-v.invariant.4
