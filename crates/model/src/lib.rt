@@ -6,7 +6,7 @@ ghost use Rattle.model.specs.Jobs.{fresh_record, total_limit};
 ghost use Rattle.model.specs.Limits.{weight_limit, forbidden, ceiling, vertex_label_limit, edge_label_limit, directed_from, vertex_limit, degree_limit, no_vertex, prefix_limit, pair_limit, subproblem_limit};
 
 // The numbers that the papers fix, and what follows from them. The definitions have the same in specs/Limits.antt (`weights` and `sizes` below).
-#[derive(Drop)]
+#[derive(Clone, Copy)]
 pub struct Limits {}
 
 impl Limits {
@@ -60,7 +60,7 @@ pub type Gains = [u64; Limits::PAIRS];
 
 // A job's state, which belongs to the caller (the paper's job record). n and m are the vertices of the recorded and the found tree, position the
 // number of its subproblems solved so far, total that of the subproblems solved in all its jobs.
-#[derive(Drop)]
+#[derive(Clone, Copy)]
 pub struct JobRecord {
     pub idle: bool,
     pub n: u32,
@@ -89,34 +89,34 @@ impl JobRecord {
 }
 
 // How many bytes a record has, its mark among them; or its mark is none of the ten of specs/Lengths.antt. No call gives this answer.
-#[derive(Drop)]
+#[derive(Clone, Copy)]
 pub enum RecordLength {
     Bytes(usize),
     Unknown,
 }
 
 // The answer of a start.
-#[derive(Drop)]
+#[derive(Clone, Copy)]
 pub enum StartAnswer {
     Started,
     Refused(u8),
 }
 
 // The answer of an advance: how many subproblems were solved.
-#[derive(Drop)]
+#[derive(Clone, Copy)]
 pub enum AdvanceAnswer {
     Advanced(u32),
     Refused(u8),
 }
 
 // What a start and an advance give where the record is passed by value: the record after the call, and the answer.
-#[derive(Drop)]
+#[derive(Clone, Copy)]
 pub struct StartOutcome {
     pub job: JobRecord,
     pub answer: StartAnswer,
 }
 
-#[derive(Drop)]
+#[derive(Clone, Copy)]
 pub struct AdvanceOutcome {
     pub job: JobRecord,
     pub answer: AdvanceAnswer,
@@ -124,14 +124,14 @@ pub struct AdvanceOutcome {
 
 // The answer of a match, and of a finish: the weight of the mapping, which is below 0 only where something lent to the job was altered, or the number
 // of the item that refused the call.
-#[derive(Drop)]
+#[derive(Clone, Copy)]
 pub enum MatchAnswer {
     Found(i32),
     Refused(u8),
 }
 
 // The answer of writing a certificate: its length in bytes, or the number of the item that refused the call.
-#[derive(Drop)]
+#[derive(Clone, Copy)]
 pub enum WriteAnswer {
     Written(u32),
     Refused(u8),
@@ -139,7 +139,7 @@ pub enum WriteAnswer {
 
 // The answer to how much to lend: the count of subproblems, the work numbers wanted and the certificate's length in bytes, or the number of the item
 // that refused the call.
-#[derive(Drop)]
+#[derive(Clone, Copy)]
 pub enum SizesAnswer {
     Sizes {
         subproblems: u32,
