@@ -13,8 +13,8 @@ ghost use Rattle.assignment_cases.specs.Small.{Small};
 
 use assignment::weights::{Weights, row_weights, weights};
 use assignment::{FREE, GAIN_LIMIT, SEARCHES};
-use libc::STDOUT_FILENO;
 use model::{Gains, Limits, Row, WideRow};
+use std::io;
 use std::num::wrapping_add_u64;
 
 // How many answers were compared and right, of whole matrices and of those without a column.
@@ -272,39 +272,38 @@ fn run(kind: u64, seed: u64) -> Count {
     n
 }
 
-fn print_kind(kind: u64) {
+fn print_kind(rt: &impl Print, kind: u64) -> io::Result<()> {
     match kind {
-        0 => io::write_all(STDOUT_FILENO, b", many ties: "),
-        1 => io::write_all(STDOUT_FILENO, b", up to 999: "),
-        2 => io::write_all(STDOUT_FILENO, b", many zeros: "),
-        3 => io::write_all(STDOUT_FILENO, b", the whole range: "),
-        _ => io::write_all(STDOUT_FILENO, b", at the limit: "),
-    };
+        0 => print!(rt; ", many ties: "),
+        1 => print!(rt; ", up to 999: "),
+        2 => print!(rt; ", many zeros: "),
+        3 => print!(rt; ", the whole range: "),
+        _ => print!(rt; ", at the limit: "),
+    }
 }
 
-fn report(kind: u64, seed: u64) {
+fn report(rt: &impl Print, kind: u64, seed: u64) -> io::Result<()> {
     let n = run(kind, seed);
-    io::write_all(STDOUT_FILENO, b"seed ");
-    io::print_decimal(STDOUT_FILENO, seed);
-    print_kind(kind);
-    io::print_decimal(STDOUT_FILENO, n.matrices);
-    io::write_all(STDOUT_FILENO, b" matrices, ");
-    io::print_decimal(STDOUT_FILENO, n.right);
-    io::write_all(STDOUT_FILENO, b" right; ");
-    io::print_decimal(STDOUT_FILENO, n.rests);
-    io::write_all(STDOUT_FILENO, b" without a column, ");
-    io::print_decimal(STDOUT_FILENO, n.rests_right);
-    io::write_all(STDOUT_FILENO, b" right; ");
-    io::print_decimal(STDOUT_FILENO, n.searches);
-    io::write_all(STDOUT_FILENO, b" searches of at most ");
-    io::print_decimal(STDOUT_FILENO, n.most);
-    io::write_all(STDOUT_FILENO, b"\n");
+    print!(rt; "seed {seed}")?;
+    print_kind(rt, kind)?;
+    let Count {
+        matrices,
+        right,
+        rests,
+        rests_right,
+        searches,
+        most,
+    } = n;
+    println!(rt;
+        "{matrices} matrices, {right} right; {rests} without a column, {rests_right} right; {searches} searches of at most {most}"
+    )
 }
 
-fn main() {
+fn main(rt: HostRuntime) -> io::Result<()> {
     let mut i = 0;
     while i < 20 {
-        report(i % 5, i / 5 + 1);
+        report(&rt, i % 5, i / 5 + 1)?;
         i += 1;
     }
+    Ok(())
 }

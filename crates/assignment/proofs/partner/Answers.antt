@@ -1,0 +1,25 @@
+-- `assignment::partner` meets its contract. The laws are in `Roots`. Assumes nothing.
+use mathlib.Core.Path.{refl, sym, ◌∙◌}
+use native.Mathlib.Omega.{arith}
+use Rattle.assignment.specs.Matching.{at, cell, out_of}
+use Rattle.assignment.proofs.Leaves.{kept_is}
+use Rattle.assignment.proofs.Roots.{partner_free, partner_zero, partner_pair}
+use Rattle.assignment.proofs.partner.Goals as goal
+
+pub returns-then-l-j : goal.returns-then-l-j
+returns-then-l-j c = partner_free c.args.l c.args.i (out_of c.args.c (cell c.args.g.now)) (at c.args.m.now) (omega (arith, c.if-l-j.true, c.place-j.ensures))
+
+pub offset_bounds-g-i : goal.offset_bounds-g-i
+offset_bounds-g-i c = omega (arith, c.requires.1, c.requires.0, c.if-l-j.false)
+
+pub bounds-g-i : goal.bounds-g-i
+bounds-g-i c = omega (arith, c.requires.1, c.requires.0, c.if-l-j.false)
+
+pub kept-requires : goal.kept-requires
+kept-requires c = omega (arith, c.requires.0, c.if-l-j.false)
+
+pub returns-then-kept-eq0 : goal.returns-then-kept-eq0
+returns-then-kept-eq0 c = partner_zero c.args.l c.args.i c.place-j.result (out_of c.args.c (cell c.args.g.now)) (at c.args.m.now) c.place-j.ensures (sym (kept_is c.args.c c.args.g.now c.args.i c.place-j.result c.kept.ensures refl) ∙ c.if-kept-eq0.true)
+
+pub returns : goal.returns
+returns c = partner_pair c.args.l c.args.i c.place-j.result (out_of c.args.c (cell c.args.g.now)) (at c.args.m.now) c.requires.0 c.place-j.ensures c.if-l-j.false (λ q. c.if-kept-eq0.false (kept_is c.args.c c.args.g.now c.args.i c.place-j.result c.kept.ensures refl ∙ q))

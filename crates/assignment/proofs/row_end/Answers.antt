@@ -1,0 +1,16 @@
+-- `assignment::row_end` meets its contract. The test says which arm the definition takes. Assumes nothing.
+use native.Mathlib.Omega.{arith}
+use borrow.Author.Tests.{eq-eqb, ne_eqb}
+use Rattle.assignment.proofs.row_end.Goals as goal
+
+pub overflow_add-result : goal.overflow_add-result
+overflow_add-result c = omega (arith, c.requires c.if-t-eq1.true)
+
+pub overflow_sub-result : goal.overflow_sub-result
+overflow_sub-result c = omega (arith, c.requires c.if-t-eq1.true)
+
+pub returns-then-t-eq1 : goal.returns-then-t-eq1
+returns-then-t-eq1 c = simp (eq-eqb _ _ c.if-t-eq1.true)
+
+pub returns-else-t-eq1 : goal.returns-else-t-eq1
+returns-else-t-eq1 c = simp (ne_eqb _ _ c.if-t-eq1.false)
