@@ -13,7 +13,7 @@ use formats::table::{edge_weight_at, vertex_row_at, weight_in_row};
 use model::Limits;
 
 // What recorded vertex u has in all its pairs: where the weights of its label begin in the table, and its serial.
-#[derive(Drop)]
+#[derive(Clone, Copy)]
 pub struct VertexRow {
     pub start: usize,
     pub serial: u32,

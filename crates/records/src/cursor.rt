@@ -6,7 +6,7 @@ use formats::tree::vertex_count;
 use plan::{Plan, child_count, degree, in_order};
 
 // The record of the i-th vertex in postorder, v, and the q-th choice of s for v.
-#[derive(Drop)]
+#[derive(Clone, Copy)]
 pub struct Cursor {
     pub i: usize,
     pub v: u8,
@@ -40,7 +40,7 @@ pub fn next(recorded: &[u8], found: &[u8], plan: &Plan, c: Cursor) -> Cursor
 }
 
 // The children of u, and the neighbours of v other than s.
-#[derive(Drop)]
+#[derive(Clone, Copy)]
 pub struct Counts {
     pub children: usize,
     pub others: usize,

@@ -23,7 +23,7 @@ use solver::fill::fill_counted;
 // be (the children of u and the neighbours of v), and how often a pair of places was looked at; how many pairs took exactly the most, where that is above
 // 0; and the searches of the pair that took the most of them.
 #[repr(C)]
-#[derive(Drop)]
+#[derive(Clone, Copy)]
 pub struct Tally {
     pub item: u8,
     pub searches: u64,

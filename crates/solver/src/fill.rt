@@ -36,7 +36,7 @@ fn repeat(work: &mut [i32], x: i32, from: usize, count: usize)
 
 // Subproblems that follow each other: count of them, from number `from` on. `first` is the number of the first of them among those of its recorded
 // vertex, or of its pair of vertices.
-#[derive(Drop)]
+#[derive(Clone, Copy)]
 struct Run {
     first: usize,
     from: usize,

@@ -25,7 +25,7 @@ use plan::{
 
 // What the pairs of recorded vertex u with any v share: how many children u has, how many work numbers stand for each recorded
 // vertex, where the weights of u's label begin in the table, and its serial.
-#[derive(Drop)]
+#[derive(Clone, Copy)]
 pub struct Shared {
     pub u: u8,
     pub count: usize,
