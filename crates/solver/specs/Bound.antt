@@ -13,7 +13,7 @@ use Rattle.foundations.specs.Sums.{sum, sum_ext, sum_first, sum_append}
 use Rattle.model.specs.Limits.{degree_limit}
 use Rattle.model.specs.Tree.{count}
 use Rattle.model.specs.Graph.{neighbours}
-use Rattle.model.specs.Order.{children, offset, width, choices, subproblems, u_at, v_at, s_at}
+use Rattle.model.specs.Order.{children, offset, width, subproblems, u_at, v_at, s_at}
 use Rattle.trees.specs.Positions.{sub_at, offset_all}
 use Rattle.plan.specs.Plan.{offset_in, Ready, Pair}
 use Rattle.plan.specs.Numbers.{Located, ready_accepted, width_some, number_v, number_s, offsets_are, number_few}

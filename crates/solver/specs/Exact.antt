@@ -55,7 +55,7 @@ del_sum : (v : ℕ) (l : List ℕ) (b : ℕ → ℕ) → T (mem v l) → b v + n
 unfolding nsum del
 del_sum v [] b t = absurd (mem_nil v t)
 del_sum v (x ∷ l) b t = ⊎_elim
-    (λ e. rw (e.1, e.0) (let i = del_le x l b in omega arith))
+    (λ e. let i : b v + nsum (del v l) b ≤ b x + nsum l b = subst (λ w. b w + nsum (del w l) b ≤ b x + nsum l b) (sym e.0) (let i = del_le x l b in omega arith) in rw e.1 i)
     (λ e. rw e.1 (⊎_elim (λ q. absurd (e.0 q)) (λ m. let i = del_sum v l b m in omega arith) (mem_cases v x l t)))
     (same v x)
 
