@@ -17,7 +17,7 @@ use records::cursor::{Cursor, counts_of, next};
 
 // How far the certificate is read: the records passed, of how many, and whether each of them is as it must be; the cursor of the subproblem whose record
 // comes next.
-#[derive(Drop)]
+#[derive(Clone, Copy)]
 pub struct Marks {
     pub number: usize,
     pub count: usize,
@@ -26,7 +26,7 @@ pub struct Marks {
 }
 
 // Where the next record begins, and how far that is.
-#[derive(Drop)]
+#[derive(Clone, Copy)]
 pub struct MarkStep {
     pub next: usize,
     pub marks: Marks,

@@ -15,7 +15,7 @@ use records::{Places, begin};
 
 // How far the records are read: those passed, of how many, and whether each of them keeps the rules; the cursor of the subproblem whose record comes next,
 // and the weight of its pair of vertices, once it is read.
-#[derive(Drop)]
+#[derive(Clone, Copy)]
 pub struct Rules {
     pub number: usize,
     pub count: usize,
@@ -25,7 +25,7 @@ pub struct Rules {
 }
 
 // Where the next record begins, and how far that is.
-#[derive(Drop)]
+#[derive(Clone, Copy)]
 pub struct RuleStep {
     pub next: usize,
     pub rules: Rules,

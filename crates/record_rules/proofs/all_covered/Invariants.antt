@@ -1,0 +1,12 @@
+-- `all_covered` meets its contract: the test is gathered row by row. Assumes nothing.
+use Rattle.record_rules.specs.Cover.{row_covered}
+use Rattle.foundations.specs.Lists.{every}
+use mathlib.Core.Path.{◌≡◌}
+use Prim.Native.Nat.{◌≤◌, ◌-◌}
+use Rattle.record_rules.proofs.all_covered.Given as goal
+
+abbrev pub invariant-loop-i : goal.invariant-loop-i
+invariant-loop-i l = (l.i ≤ l.k) × (l.ok ≡ every (row_covered l.g l.below l.across l.l l.q) l.i)
+
+abbrev pub decreases-loop-i : goal.decreases-loop-i
+decreases-loop-i l = l.k - l.i
