@@ -10,9 +10,9 @@ ghost use Rattle.console.specs.Room.{PartsLeave};
 use formats::bytes::byte_or_zero;
 use formats::split::split;
 use integers::gain;
-use libc::STDOUT_FILENO;
 use model::{Limits, MatchAnswer};
 use one_call::match_trees;
+use std::io;
 
 // The match of the three parts of an input.
 fn match_input(input: &[u8], work: &mut [i32], mapping: &mut [u8]) -> MatchAnswer
@@ -27,47 +27,50 @@ fn match_input(input: &[u8], work: &mut [i32], mapping: &mut [u8]) -> MatchAnswe
     match_trees(table, recorded, found, work, mapping)
 }
 
-// The functions that print answer whether all of it was written.
-fn print(text: &[u8]) -> bool {
-    io::write_all(STDOUT_FILENO, text)
+// The functions that print answer with an error where not all of it was written.
+fn print(rt: &impl Print, text: &str) -> io::Result<()> {
+    rt.print(text)
 }
 
 // A number and what stands after it.
-fn print_number(x: u64, end: &[u8]) -> bool {
-    io::print_decimal(STDOUT_FILENO, x) && print(end)
+fn print_number(rt: &impl Print, x: u64, end: &str) -> io::Result<()> {
+    print!(rt; "{x}{end}")
 }
 
 // A recorded vertex's partner, or a hyphen, and the end of the line.
-fn print_partner(partner: u8) -> bool {
+fn print_partner(rt: &impl Print, partner: u8) -> io::Result<()> {
     if partner == Limits::NONE {
-        print(b"-\n")
+        print(rt, "-\n")
     } else {
-        print_number(partner as u64, b"\n")
+        print_number(rt, partner as u64, "\n")
     }
 }
 
 // A line for each of the first n recorded vertices: its number, a space, its partner or a hyphen.
-fn print_partners(mapping: &[u8], n: usize) -> bool
+fn print_partners(rt: &impl Print, mapping: &[u8], n: usize) -> io::Result<()>
     requires { n ≤ length mapping.now }
 {
     let mut u = 0;
-    let mut written = true;
-    while u < n && written {
-        written = print_number(u as u64, b" ") && print_partner(mapping[u]);
+    while u < n {
+        print_number(rt, u as u64, " ")?;
+        print_partner(rt, mapping[u])?;
         u += 1;
     }
-    written
+    Ok(())
 }
 
 // The weight, which is never negative: its gain over 0 is it, unsigned. Then the partners.
-fn print_found(weight: i32, mapping: &[u8], n: usize) -> bool
+fn print_found(rt: &impl Print, weight: i32, mapping: &[u8], n: usize) -> io::Result<()>
     requires { n ≤ length mapping.now }
 {
-    print(b"weight ") && print_number(gain(0, weight), b"\n") && print_partners(mapping, n)
+    print(rt, "weight ")?;
+    print_number(rt, gain(0, weight), "\n")?;
+    print_partners(rt, mapping, n)
 }
 
-fn print_refused(item: u8) -> bool {
-    print(b"refused ") && print_number(item as u64, b"\n")
+fn print_refused(rt: &impl Print, item: u8) -> io::Result<()> {
+    print(rt, "refused ")?;
+    print_number(rt, item as u64, "\n")
 }
 
 // How many vertices the recorded part of the input names, 0 where its head is cut off.
@@ -81,14 +84,19 @@ fn recorded_count(input: &[u8]) -> usize
 }
 
 // Entry point.
-// Matches the input and prints the weight and every recorded vertex's partner, or the number of the item that refuses it; answers whether all was
-// printed. It leaves what the match leaves.
-pub fn print_match(input: &[u8], work: &mut [i32], mapping: &mut [u8]) -> bool
+// Matches the input and prints the weight and every recorded vertex's partner, or the number of the item that refuses it; answers with an error where
+// not all was printed. It leaves what the match leaves.
+pub fn print_match(
+    rt: &impl Print,
+    input: &[u8],
+    work: &mut [i32],
+    mapping: &mut [u8],
+) -> io::Result<()>
     ensures { PartsLeave input.now work.old mapping.old work.new mapping.new }
 {
     let n = recorded_count(input);
     match match_input(input, work, mapping) {
-        MatchAnswer::Found(w) => print_found(w, mapping, n),
-        MatchAnswer::Refused(k) => print_refused(k),
+        MatchAnswer::Found(w) => print_found(rt, w, mapping, n),
+        MatchAnswer::Refused(k) => print_refused(rt, k),
     }
 }

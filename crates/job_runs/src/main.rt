@@ -32,6 +32,8 @@ use job_lines::show::{
 };
 use jobs::{advance_core, finish, start_core};
 use model::{JobRecord, Limits};
+use reading::read_full;
+use std::io;
 
 // What a step works on beside the buffers: how long the input is, how many work numbers and mapping bytes are lent, and the record.
 #[derive(Drop)]
@@ -54,6 +56,7 @@ fn record_of(s: &[u8]) -> JobRecord {
 
 // One call; answers the record after it.
 fn call(
+    rt: &impl Print,
     word: u8,
     job: JobRecord,
     budget: u32,
@@ -62,32 +65,33 @@ fn call(
     found: &[u8],
     work: &mut [i32],
     mapping: &mut [u8],
-) -> JobRecord {
+) -> io::Result<JobRecord> {
     if word == b's' {
         let out = start_core(job, table, recorded, found, work);
         let answer = out.answer;
-        print_started(answer);
-        return out.job;
+        print_started(rt, answer)?;
+        return Ok(out.job);
     }
     if word == b'a' {
         let out = advance_core(job, table, recorded, found, budget, work);
         let answer = out.answer;
-        print_advanced(answer);
-        return out.job;
+        print_advanced(rt, answer)?;
+        return Ok(out.job);
     }
-    print_found(finish(job, table, recorded, found, work, mapping));
-    job
+    print_found(rt, finish(job, table, recorded, found, work, mapping))?;
+    Ok(job)
 }
 
 // A call with as much of the buffers as is lent.
 fn call_lent(
+    rt: &impl Print,
     word: u8,
     st: State,
     budget: u32,
     plant: &[u8],
     work: &mut [i32],
     mapping: &mut [u8],
-) -> JobRecord {
+) -> io::Result<JobRecord> {
     let len = lesser(st.len, plant.len());
     let lent = lesser(st.lent, work.len());
     let room = lesser(st.room, mapping.len());
@@ -96,6 +100,7 @@ fn call_lent(
     let a = p.recorded;
     let b = p.found;
     call(
+        rt,
         word,
         st.job,
         budget,
@@ -109,6 +114,7 @@ fn call_lent(
 
 // A call and what it changed.
 fn call_step(
+    rt: &impl Print,
     word: u8,
     st: State,
     budget: u32,
@@ -116,28 +122,29 @@ fn call_step(
     work: &mut [i32],
     kept: &mut [i32],
     mapping: &mut [u8],
-) -> State {
+) -> io::Result<State> {
     copy(work, kept);
-    let job = call_lent(word, st, budget, plant, work, mapping);
-    print_step(st.job, job, work, kept, mapping);
+    let job = call_lent(rt, word, st, budget, plant, work, mapping)?;
+    print_step(rt, st.job, job, work, kept, mapping)?;
     clear_bytes(mapping);
-    State {
+    Ok(State {
         len: st.len,
         lent: st.lent,
         room: st.room,
         job,
-    }
+    })
 }
 
 // The one_call match, and the same as a job.
 fn job_step(
+    rt: &impl Print,
     st: State,
     budget: u32,
     plant: &[u8],
     work: &mut [i32],
     kept: &mut [i32],
     mapping: &mut [u8],
-) -> State {
+) -> io::Result<State> {
     let len = lesser(st.len, plant.len());
     let input = &plant[0..len];
     let p = split(input);
@@ -151,45 +158,46 @@ fn job_step(
     let job = run.job;
     let answer = finish(job, table, recorded, found, work, mapping);
     clear_bytes(mapping);
-    print_job(answer, whole, job, run.advances, work, kept);
-    State {
+    print_job(rt, answer, whole, job, run.advances, work, kept)?;
+    Ok(State {
         len: st.len,
         lent: st.lent,
         room: st.room,
         job,
-    }
+    })
 }
 
 // Another record, or how much is lent.
-fn set(word: u8, st: State, bytes: &[u8]) -> State {
+fn set(rt: &impl Print, word: u8, st: State, bytes: &[u8]) -> io::Result<State> {
     if word == b'r' {
         let job = record_of(bytes);
-        print_text(b"record");
-        print_record(job);
-        print_text(b"\n");
-        return State {
+        print_text(rt, "record")?;
+        print_record(rt, job)?;
+        print_text(rt, "\n")?;
+        return Ok(State {
             len: st.len,
             lent: st.lent,
             room: st.room,
             job,
-        };
+        });
     }
     let job = st.job;
     let lent = word_at(bytes, 0);
     let room = word_at(bytes, 4);
-    print_number(b"lent ", lent as u64);
-    print_number(b" and ", room as u64);
-    print_text(b"\n");
-    State {
+    print_number(rt, "lent ", lent as u64)?;
+    print_number(rt, " and ", room as u64)?;
+    print_text(rt, "\n")?;
+    Ok(State {
         len: st.len,
         lent: lent as usize,
         room: room as usize,
         job,
-    }
+    })
 }
 
 // A step other than a new input.
 fn step(
+    rt: &impl Print,
     word: u8,
     st: State,
     bytes: &[u8],
@@ -197,50 +205,58 @@ fn step(
     work: &mut [i32],
     kept: &mut [i32],
     mapping: &mut [u8],
-) -> State {
+) -> io::Result<State> {
     let first = word_at(bytes, 0);
     match word {
-        b'j' => job_step(st, first, plant, work, kept, mapping),
-        b'l' | b'r' => set(word, st, bytes),
+        b'j' => job_step(rt, st, first, plant, work, kept, mapping),
+        b'l' | b'r' => set(rt, word, st, bytes),
         b'n' => {
             put(work, first as usize, second_of(bytes));
-            print_text(b"written\n");
-            st
+            print_text(rt, "written\n")?;
+            Ok(st)
         }
         b'v' => {
-            print_text(b"numbers");
-            print_numbers(work, first as usize);
-            st
+            print_text(rt, "numbers")?;
+            print_numbers(rt, work, first as usize)?;
+            Ok(st)
         }
-        _ => call_step(word, st, first, plant, work, kept, mapping),
+        _ => call_step(rt, word, st, first, plant, work, kept, mapping),
     }
 }
 
 // A new input of this length; with it fresh memory, but for the word `other`.
-fn renew(word: u8, st: State, len: usize, work: &mut [i32], mapping: &mut [u8]) -> State {
+fn renew(
+    rt: &impl Print,
+    word: u8,
+    st: State,
+    len: usize,
+    work: &mut [i32],
+    mapping: &mut [u8],
+) -> io::Result<State> {
     let job = st.job;
     if word == b'o' {
-        print_text(b"another input\n");
-        return State {
+        print_text(rt, "another input\n")?;
+        return Ok(State {
             len,
             lent: st.lent,
             room: st.room,
             job,
-        };
+        });
     }
-    print_text(b"input\n");
+    print_text(rt, "input\n")?;
     clear_numbers(work);
     clear_bytes(mapping);
-    State {
+    Ok(State {
         len,
         lent: work.len(),
         room: mapping.len(),
         job: JobRecord::fresh(),
-    }
+    })
 }
 
 // The step of the line that begins at `from`, with its bytes. An input is read once more, to its own buffer.
 fn turn(
+    rt: &impl Print,
     word: u8,
     st: State,
     bytes: &[u8],
@@ -250,25 +266,26 @@ fn turn(
     work: &mut [i32],
     kept: &mut [i32],
     mapping: &mut [u8],
-) -> State
+) -> io::Result<State>
     requires { from < length input.now }
 {
-    print_text(b": ");
+    print_text(rt, ": ")?;
     if (word == b'p') | (word == b'o') {
         let line = read_line(input, from, plant);
-        return renew(word, st, line.len, work, mapping);
+        return renew(rt, word, st, line.len, work, mapping);
     }
-    step(word, st, bytes, plant, work, kept, mapping)
+    step(rt, word, st, bytes, plant, work, kept, mapping)
 }
 
 fn run(
+    rt: &impl Print,
     input: &[u8],
     bytes: &mut [u8],
     plant: &mut [u8],
     work: &mut [i32],
     kept: &mut [i32],
     mapping: &mut [u8],
-) {
+) -> io::Result<()> {
     let mut st = State {
         len: 0,
         lent: 0,
@@ -280,8 +297,9 @@ fn run(
         let line = read_line(input, at, bytes);
         let name = line.name;
         let len = line.len;
-        print_text(&input[at..name]);
+        rt.write_all(&input[at..name])?;
         st = turn(
+            rt,
             line.word,
             st,
             &bytes[0..len],
@@ -291,25 +309,27 @@ fn run(
             work,
             kept,
             mapping,
-        );
+        )?;
         at = line.next;
     }
+    Ok(())
 }
 
-fn main() {
-    let mut input = io::large_buffer();
-    let n = io::read_full(0, &mut input);
+fn main(rt: HostRuntime) -> io::Result<()> {
+    let mut input = [0u8; 65536];
+    let n = read_full(&mut rt.reader(), &mut input)?;
     let mut bytes = [0u8; 8192];
     let mut plant = [0u8; 8192];
     let mut work = [0i32; Limits::SUBPROBLEMS];
     let mut kept = [0i32; Limits::SUBPROBLEMS];
     let mut mapping = [Limits::NONE; Limits::ROWS];
     run(
+        &rt,
         &input[..n],
         &mut bytes,
         &mut plant,
         &mut work,
         &mut kept,
         &mut mapping,
-    );
+    )
 }
