@@ -134,11 +134,7 @@ overflow_add-base-in-loop-q c =
     let number : let a = c.args in
     let k = a.i * c.width_of.result + c.offset.result + c.loop-q.q in
     (k ≡ a.i * width a.found.now + (offset a.found.now a.v + c.loop-q.q)) × (k < length a.work.now) × (k < subproblem_limit) = here_work (here) _ _ c.width_of.ensures.0 c.offset.ensures in
-    let a = c.args in
-    let W = c.loop-q.invariant.2 in
-    let z = get_or a.work.now (a.i * c.width_of.result + c.offset.result + c.loop-q.q) (pos 0) in
-    let one = here_left (here) (duals) W.ends (back {z = z} c.put_one-arg-in-loop-q-1.given ∙ ap (λ (k : ℕ). get_or a.work.now k (pos 0)) (number).0) c.put_one-next.ensures in
-    (omega arith, c.loop-q.invariant.1, walked_then (omega arith) (omega arith) W one)    let h = number in omega (arith, h.1, h.2)
+    let h = number in omega (arith, h.1, h.2)
 
 pub offset_bounds-work-base : goal.offset_bounds-work-base
 offset_bounds-work-base c =
@@ -156,11 +152,7 @@ offset_bounds-work-base c =
     let number : let a = c.args in
     let k = a.i * c.width_of.result + c.offset.result + c.loop-q.q in
     (k ≡ a.i * width a.found.now + (offset a.found.now a.v + c.loop-q.q)) × (k < length a.work.now) × (k < subproblem_limit) = here_work (here) _ _ c.width_of.ensures.0 c.offset.ensures in
-    let a = c.args in
-    let W = c.loop-q.invariant.2 in
-    let z = get_or a.work.now (a.i * c.width_of.result + c.offset.result + c.loop-q.q) (pos 0) in
-    let one = here_left (here) (duals) W.ends (back {z = z} c.put_one-arg-in-loop-q-1.given ∙ ap (λ (k : ℕ). get_or a.work.now k (pos 0)) (number).0) c.put_one-next.ensures in
-    (omega arith, c.loop-q.invariant.1, walked_then (omega arith) (omega arith) W one)    let h = number in omega (arith, h.1, h.2)
+    let h = number in omega (arith, h.1, h.2)
 
 pub bounds-work-base : goal.bounds-work-base
 bounds-work-base c =
@@ -178,11 +170,7 @@ bounds-work-base c =
     let number : let a = c.args in
     let k = a.i * c.width_of.result + c.offset.result + c.loop-q.q in
     (k ≡ a.i * width a.found.now + (offset a.found.now a.v + c.loop-q.q)) × (k < length a.work.now) × (k < subproblem_limit) = here_work (here) _ _ c.width_of.ensures.0 c.offset.ensures in
-    let a = c.args in
-    let W = c.loop-q.invariant.2 in
-    let z = get_or a.work.now (a.i * c.width_of.result + c.offset.result + c.loop-q.q) (pos 0) in
-    let one = here_left (here) (duals) W.ends (back {z = z} c.put_one-arg-in-loop-q-1.given ∙ ap (λ (k : ℕ). get_or a.work.now k (pos 0)) (number).0) c.put_one-next.ensures in
-    (omega arith, c.loop-q.invariant.1, walked_then (omega arith) (omega arith) W one)    let h = number in omega (arith, h.1, h.2)
+    let h = number in omega (arith, h.1, h.2)
 
 pub loop-q-preserved : goal.loop-q-preserved
 loop-q-preserved c =
