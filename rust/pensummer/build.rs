@@ -1,5 +1,5 @@
 //! Links the proved archive, libpensummer.a. `PENSUMMER_ARCHIVE` may name a folder that has one; else it is the
-//! repository's own, which `tools/archive` makes by `rt staticlib` where it is missing or older than its sources. What
+//! repository's own, which `tools/archive` makes by `rt lib` where it is missing or older than its sources. What
 //! goes wrong is said in a sentence, and the build ends.
 use std::env;
 use std::path::{Path, PathBuf};

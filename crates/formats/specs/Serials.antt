@@ -1,6 +1,6 @@
 -- Serials read once, and item 25 over them. Assumes nothing.
-use Rattle.std.specs.Prelude.{◌≡◌, refl, Bool, true, false, not, ◌||◌, List, ℕ, ◌+◌, ◌≤◌, ◌<◌, eqb, length, get_or, set}
-use Rattle.std.proofs.Common.{sym, ◌∙◌, ⊎_elim, arith, not-suc-le-zero, length-set, get_or-set_same, get_or-set_other}
+use Rattle.std.specs.Prelude.{◌≡◌, Bool, true, false, not, ◌||◌, List, ℕ, ◌+◌, ◌<◌, eqb, length, get_or, set}
+use Rattle.std.proofs.Common.{◌∙◌, ⊎_elim, arith, not-suc-le-zero, length-set, get_or-set_same, get_or-set_other}
 use Rattle.foundations.specs.Tests.{same?}
 use Rattle.foundations.specs.Lists.{every, every_all, every_ext}
 use Rattle.model.specs.Limits.{vertex_limit}

@@ -17,8 +17,7 @@ use solver::fill::fill_counted;
 // Entry point.
 // Fills all work numbers and sets the counts to the searches that this takes and how often these look at each pair of places. The answer is 0, or the
 // number of the first item of a start that applies; then nothing is written.
-#[unsafe(no_mangle)]
-pub extern "C" fn count_searches(
+pub fn count_searches(
     table: &[u8],
     recorded: &[u8],
     found: &[u8],
@@ -41,8 +40,7 @@ pub extern "C" fn count_searches(
 
 // Entry point.
 // Fills all work numbers too, the subproblems of one pair of vertices after the other, and adds up what each pair takes.
-#[unsafe(no_mangle)]
-pub extern "C" fn tally_searches(
+pub fn tally_searches(
     table: &[u8],
     recorded: &[u8],
     found: &[u8],

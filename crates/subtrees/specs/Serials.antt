@@ -1,5 +1,5 @@
 -- What serials mean for pairs, mappings and trees, in the words of paper 02, [3]. Each statement has only definitions of `model`. Assumes nothing.
-use Rattle.std.specs.Prelude.{◌≡◌, refl, ◌⊎◌, ◌≢◌, ◌↔◌, Bool, true, false, not, ◌&&◌, ◌||◌, List, ℕ, zero, suc, ◌<◌, eqb}
+use Rattle.std.specs.Prelude.{◌≡◌, refl, ◌⊎◌, ◌≢◌, ◌↔◌, Bool, true, false, not, List, ℕ, zero, suc, ◌<◌, eqb}
 use Rattle.std.proofs.Common.{sym, ◌∙◌, ⊎_elim, true≢false, arith, eqb-true, eq-eqb, ne_eqb}
 use Rattle.foundations.specs.Tests.{same?, same, is_false, and_false}
 use Rattle.foundations.specs.Lists.{every, every_fails}

@@ -1,5 +1,5 @@
 -- `edge_table` meets its contract. Assumes nothing.
-use Prim.Native.Nat.{◌-◌, ◌<◌}
+use Prim.Native.Nat.{◌<◌}
 use mathlib.Core.Path.{◌∙◌}
 use Rattle.model.specs.Limits.{vertex_limit}
 use Rattle.trees.specs.Accepted.{Ends, edge_known}

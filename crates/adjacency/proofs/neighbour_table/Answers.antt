@@ -1,5 +1,5 @@
 -- `neighbour_table` meets its contract. Assumes nothing.
-use Prim.Native.Nat.{◌-◌, ◌≤◌, ◌<◌}
+use Prim.Native.Nat.{◌≤◌, ◌<◌}
 use Rattle.model.specs.Limits.{vertex_limit}
 use Rattle.trees.specs.Accepted.{Ends}
 use Rattle.adjacency.specs.NeighbourSteps.{no_rows, joined_rows, rows_end}

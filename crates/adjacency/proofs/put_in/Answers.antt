@@ -1,5 +1,4 @@
 -- `put_in` meets its contract. Assumes nothing.
-use Prim.Native.Nat.{◌-◌}
 use Rattle.adjacency.specs.Insertion.{putting_none, putting_more, putting_nothing, putting_all}
 use borrow.Author.Rules.{rules}
 use native.Mathlib.Omega.{arith}

@@ -1,5 +1,4 @@
 -- `slot` meets its contract. Assumes nothing.
-use Prim.Native.Nat.{◌-◌}
 use mathlib.Core.Path.{◌≡◌, sym, ◌∙◌}
 use borrow.Author.Count.{below_more}
 use native.Mathlib.Omega.{arith}

@@ -1,7 +1,6 @@
 -- `behind_row` meets its contract. Assumes nothing.
 use Rattle.model.specs.Limits.{degree_limit}
 use Rattle.planning.specs.Making.{behind_none, behind_more}
-use Prim.Native.Nat.{◌-◌}
 use mathlib.Core.Path.{◌≡◌, refl}
 use native.Mathlib.Omega.{arith}
 use Rattle.planning.proofs.behind_row.Goals as goal

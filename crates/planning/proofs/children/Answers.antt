@@ -1,5 +1,4 @@
 -- `children` meets its contract. Assumes nothing.
-use Prim.Native.Nat.{◌-◌}
 use mathlib.Core.Path.{◌≡◌, refl}
 use Rattle.model.specs.Limits.{degree_limit}
 use Rattle.planning.specs.Making.{children_none, children_more}

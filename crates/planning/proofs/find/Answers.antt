@@ -1,5 +1,4 @@
 -- `find` meets its contract. Assumes nothing.
-use Prim.Native.Nat.{◌-◌}
 use borrow.Author.Count.{below_more}
 use borrow.Author.Rules.{rules}
 use Rattle.planning.proofs.find.Goals as goal

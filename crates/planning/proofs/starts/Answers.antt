@@ -1,7 +1,7 @@
 -- `starts` meets its contract. Assumes nothing.
 use Rattle.model.specs.Limits.{prefix_limit, degree_limit}
 use Rattle.planning.specs.Making.{zeros, starts_none, starts_more}
-use Prim.Native.Nat.{◌≤◌, ◌-◌}
+use Prim.Native.Nat.{◌≤◌}
 use mathlib.Core.Path.{◌≡◌, refl}
 use borrow.Author.Rules.{rules}
 use native.Mathlib.Omega.{arith}

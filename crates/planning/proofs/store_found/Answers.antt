@@ -1,6 +1,5 @@
 -- `store_found` meets its contract. Assumes nothing.
 use Rattle.planning.specs.Rows.{found_none, found_more}
-use Prim.Native.Nat.{◌-◌}
 use mathlib.Core.Path.{◌≡◌, refl}
 use borrow.Author.Rules.{rules}
 use native.Mathlib.Omega.{arith}

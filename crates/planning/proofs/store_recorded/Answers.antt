@@ -1,6 +1,5 @@
 -- `store_recorded` meets its contract. Assumes nothing.
 use Rattle.planning.specs.Rows.{recorded_none, recorded_more}
-use Prim.Native.Nat.{◌-◌}
 use mathlib.Core.Path.{◌≡◌}
 use borrow.Author.Rules.{rules}
 use native.Mathlib.Omega.{arith}

@@ -1,5 +1,4 @@
 -- `store_vertices` meets its contract. Assumes nothing.
-use Prim.Native.Nat.{◌-◌}
 use mathlib.Core.Path.{◌≡◌}
 use Rattle.planning.specs.Rows.{vertices_none, vertices_more}
 use borrow.Author.Rules.{rules}

@@ -1,5 +1,4 @@
 -- `taken` meets its contract. Assumes nothing.
-use Prim.Native.Nat.{◌-◌}
 use borrow.Author.Count.{below_more}
 use borrow.Author.Rules.{rules}
 use Rattle.planning.proofs.taken.Goals as goal

@@ -1,6 +1,6 @@
 -- `visit` meets its contract. Assumes nothing.
-use Rattle.std.proofs.Common.{◌-◌, ℕ, ◌<◌, ◌≤◌, List, ◌++◌, ◌≡◌, arith}
-use Rattle.trees.specs.Visits.{visits, visits_none, visits_go, visits_skip, visits_all, post_none, goes_low}
+use Rattle.std.proofs.Common.{◌-◌, ◌≡◌, arith}
+use Rattle.trees.specs.Visits.{visits_none, visits_go, visits_skip, visits_all, post_none}
 use Rattle.trees.proofs.+visit.Goals as goal
 use Rattle.trees.proofs.+visit.Goals.{then-w-from, else-w-from}
 
@@ -16,8 +16,8 @@ loop-i-preserved t c =
     let b = c.loop-i in (
       omega arith,
       λ p h. elim c.if-w-from.branch [
-        then-w-from w ↦ rw (visits_go a.t.now (a.k - 1) a.v a.from b.i p w.if-w-from.true, w.at-is, w.n-is) (w.visit-q.ensures _ (b.invariant.1 p h))
-      | else-w-from w ↦ rw (visits_skip a.t.now (a.k - 1) a.v a.from b.i p w.if-w-from.false, w.at-is, w.n-is) (b.invariant.1 p h)
+        | then-w-from w ↦ rw (visits_go a.t.now (a.k - 1) a.v a.from b.i p w.if-w-from.true, w.at-is, w.n-is) (w.visit-q.ensures _ (b.invariant.1 p h))
+        | else-w-from w ↦ rw (visits_skip a.t.now (a.k - 1) a.v a.from b.i p w.if-w-from.false, w.at-is, w.n-is) (b.invariant.1 p h)
       ],
     )
 

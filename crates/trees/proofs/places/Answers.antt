@@ -3,7 +3,7 @@ use Rattle.model.specs.Limits.{vertex_limit}
 use Rattle.trees.specs.Visits.{Placed, placed_more}
 use native.Mathlib.Omega.{arith}
 use mathlib.Core.Path.{◌≡◌, refl, subst}
-use Prim.Native.Nat.{◌-◌, ◌<◌}
+use Prim.Native.Nat.{◌<◌}
 use lib.ListN.{get_or}
 use Rattle.trees.proofs.places.Goals as goal
 

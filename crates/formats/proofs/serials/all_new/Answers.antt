@@ -1,6 +1,5 @@
 -- `all_new` meets its contract. Assumes nothing.
 use mathlib.Core.Path.{refl, ◌∙◌}
-use Prim.Native.Nat.{◌-◌}
 use Rattle.foundations.specs.Lists.{every, every_step, every_end}
 use Rattle.model.specs.Tree.{serial_new, serials_differ}
 use Rattle.formats.specs.Serials.{new_is}

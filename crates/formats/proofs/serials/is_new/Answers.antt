@@ -1,7 +1,6 @@
 -- `is_new` meets its contract: the test is gathered over the vertices before v. Assumes nothing.
 use mathlib.Core.Path.{◌≡◌, refl}
-use mathlib.Core.Bool.{true, false, not}
-use Prim.Native.Nat.{◌-◌}
+use mathlib.Core.Bool.{false, not}
 use lib.Dec.{eqb}
 use lib.ListN.{get_or}
 use borrow.Author.Tests.{ne_eqb}

@@ -1,5 +1,4 @@
 -- `serials` meets its contract. Assumes nothing.
-use Prim.Native.Nat.{◌-◌}
 use mathlib.Core.Path.{◌≡◌, refl}
 use Rattle.formats.specs.Serials.{serials_none, serials_more}
 use native.Mathlib.Omega.{arith}

@@ -1,6 +1,5 @@
 -- `row_ok` meets its contract: the test is gathered over the row. Assumes nothing.
 use mathlib.Core.Path.{refl}
-use Prim.Native.Nat.{◌-◌}
 use native.Mathlib.Omega.{arith}
 use Rattle.foundations.specs.Lists.{every, every_step, every_end}
 use Rattle.model.specs.Bytes.{int32_at}

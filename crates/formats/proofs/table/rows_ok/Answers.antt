@@ -1,6 +1,5 @@
 -- `rows_ok` meets its contract: the test is gathered over the rows. Assumes nothing.
 use mathlib.Core.Path.{refl}
-use Prim.Native.Nat.{◌-◌}
 use native.Mathlib.Omega.{arith}
 use Rattle.foundations.specs.Lists.{every, every_step, every_end}
 use Rattle.model.specs.Table.{row_ok}

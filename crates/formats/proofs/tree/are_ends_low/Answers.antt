@@ -4,7 +4,6 @@ use Rattle.model.specs.Tree.{end_a, end_b, ends_low}
 use lib.Dec.{ltb}
 use native.Mathlib.Omega.{arith}
 use mathlib.Core.Path.{refl}
-use Prim.Native.Nat.{◌-◌}
 use mathlib.Core.Bool.{◌&&◌}
 use Rattle.formats.proofs.tree.are_ends_low.Goals as goal
 

@@ -1,6 +1,5 @@
 -- `edges_marked` meets its contract. Assumes nothing.
 use mathlib.Core.Path.{refl}
-use Prim.Native.Nat.{◌-◌}
 use Rattle.foundations.specs.Lists.{every, every_step, every_end}
 use Rattle.model.specs.Bytes.{is_mark, edge_mark}
 use Rattle.model.specs.Tree.{edge_start}

@@ -1,6 +1,5 @@
 -- `found_item` meets its contract. Assumes nothing.
 use mathlib.Core.Path.{ap, ◌∙◌}
-use Rattle.model.specs.Tree.{tree_item}
 use Rattle.formats.specs.TreeItems.{found_number, found_shift, item_small}
 use Rattle.formats.proofs.tree.found_item.Goals as goal
 

@@ -3,7 +3,6 @@ use Rattle.foundations.specs.Lists.{tab, fill_step, fill_done}
 use lib.Dec.{eqb}
 use native.Mathlib.Omega.{arith}
 use mathlib.Core.Path.{refl}
-use Prim.Native.Nat.{◌-◌}
 use mathlib.Core.Bool.{cond}
 use lib.ListN.{get_or}
 use Rattle.model.specs.Limits.{vertex_limit}

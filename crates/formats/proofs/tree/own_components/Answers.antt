@@ -2,7 +2,6 @@
 use Rattle.foundations.specs.Lists.{tab, fill_step, fill_done}
 use native.Mathlib.Omega.{arith}
 use mathlib.Core.Path.{refl}
-use Prim.Native.Nat.{◌-◌}
 use Rattle.model.specs.Limits.{vertex_limit}
 use Rattle.formats.proofs.tree.own_components.Goals as goal
 

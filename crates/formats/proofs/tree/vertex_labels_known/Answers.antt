@@ -1,6 +1,5 @@
 -- `vertex_labels_known` meets its contract. Assumes nothing.
 use mathlib.Core.Path.{refl}
-use Prim.Native.Nat.{◌-◌}
 use lib.Dec.{ltb}
 use Rattle.foundations.specs.Lists.{every, every_step, every_end}
 use Rattle.model.specs.Tree.{vertex_label}

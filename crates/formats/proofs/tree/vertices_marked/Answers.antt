@@ -1,6 +1,5 @@
 -- `vertices_marked` meets its contract. Assumes nothing.
 use mathlib.Core.Path.{refl}
-use Prim.Native.Nat.{◌-◌}
 use Rattle.foundations.specs.Lists.{every, every_step, every_end}
 use Rattle.model.specs.Bytes.{is_mark}
 use Rattle.model.specs.Tree.{vertex_mark_of, vertex_start}
