@@ -1,5 +1,4 @@
 -- `tops` meets its contract: k counts the tops below u. Assumes nothing.
-use Prim.Native.Nat.{◌-◌}
 use mathlib.Core.Path.{◌≡◌, refl, ap, ◌∙◌}
 use native.Mathlib.Omega.{arith}
 use Rattle.foundations.specs.Counting.{cnt}

@@ -38,8 +38,11 @@ pub edge_pair-w-requires : goal.edge_pair-w-requires
 edge_pair-w-requires c =
     let some : 1 ≤ c.slot-c.result = omega (arith, c.if-c-lt1.false) in
     let low : c.args.b < count c.args.found.now = omega (arith, c.vertex_count-m.ensures, c.if-m-b.false) in
-    record { table_passed = (ready_accepted c.requires.ready).weights; i_bound = rw (c.neighbour_edge-j.ensures, c.parent_edge-i.ensures)
-          (between_known c.requires.ready c.args.u c.args.a c.args.b (low) c.slot-c.result c.slot-c.ensures c.requires.u_bound.0 c.requires.u_bound.1 (some)) }
+    record {
+      table_passed = (ready_accepted c.requires.ready).weights;
+      i_bound = rw (c.neighbour_edge-j.ensures, c.parent_edge-i.ensures)
+          (between_known c.requires.ready c.args.u c.args.a c.args.b (low) c.slot-c.result c.slot-c.ensures c.requires.u_bound.0 c.requires.u_bound.1 (some));
+    }
 
 pub returns : goal.returns
 returns c =

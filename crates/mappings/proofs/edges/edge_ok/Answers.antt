@@ -47,10 +47,13 @@ bounds-mapping-u c =
 pub edge_between-requires : goal.edge_between-requires
 edge_between-requires c =
     let is : c.parent-w.result ≡ parent c.args.recorded.now c.args.u = (above_low (above c.requires.ready) c.args.u c.parent-w.result c.requires.u_bound c.parent-w.ensures).2 in
-    record { ready = c.requires.ready; u_bound = (
+    record {
+      ready = c.requires.ready;
+      u_bound = (
         c.requires.u_bound,
         edge_below c.args.table.now c.args.recorded.now c.args.found.now c.args.mapping.now c.args.u c.parent-w.result c.is_mapped-here.result c.is_mapped-above.result (is) c.is_mapped-here.ensures c.is_mapped-above.ensures (ap not c.if-not-both.false),
-      ) }
+      );
+    }
 
 pub returns : goal.returns
 returns c =

@@ -1,5 +1,4 @@
 -- `is_new` meets its contract: the test is gathered over the vertices before u. Assumes nothing.
-use Prim.Native.Nat.{◌-◌}
 use mathlib.Core.Path.{refl}
 use mathlib.Core.Bool.{not}
 use native.Mathlib.Omega.{arith}

@@ -1,5 +1,4 @@
 -- `vertices_ok` meets its contract: the test is gathered over the recorded vertices. Assumes nothing.
-use Prim.Native.Nat.{◌-◌}
 use mathlib.Core.Path.{refl}
 use native.Mathlib.Omega.{arith}
 use Rattle.foundations.specs.Lists.{every, every_step, every_end}
