@@ -6,7 +6,7 @@ use model::WriteAnswer;
 
 // The answer of writing as two numbers: the item that refused the call, 0 for none, and the certificate's length in bytes, 0 where there is none.
 #[repr(C)]
-#[derive(Drop)]
+#[derive(Clone, Copy)]
 pub struct WriteResult {
     pub refusal: u32,
     pub length: u32,

@@ -7,7 +7,7 @@ use model::{AdvanceAnswer, JobRecord, StartAnswer};
 
 // The caller's record of a job: 0 in `idle` says that it is not idle, any other number that it is.
 #[repr(C)]
-#[derive(Drop)]
+#[derive(Clone, Copy)]
 pub struct JobMemory {
     pub idle: u32,
     pub n: u32,
@@ -69,7 +69,7 @@ pub fn start_number(a: StartAnswer) -> u32
 
 // An advance's answer as two numbers: the item that refused the call, 0 for none, and how many subproblems were solved.
 #[repr(C)]
-#[derive(Drop)]
+#[derive(Clone, Copy)]
 pub struct AdvanceResult {
     pub refusal: u32,
     pub count: u32,

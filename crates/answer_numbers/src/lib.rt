@@ -12,7 +12,7 @@ use model::MatchAnswer;
 
 // A match's answer as two numbers: the item that refused the call, 0 for none, and the mapping's weight, 0 where there is none.
 #[repr(C)]
-#[derive(Drop)]
+#[derive(Clone, Copy)]
 pub struct MatchResult {
     pub refusal: u32,
     pub weight: i32,

@@ -7,7 +7,7 @@ use model::SizesAnswer;
 // The item that refused the call, 0 for none; the count of subproblems, the work numbers wanted and the certificate's length in bytes, 0 each where it
 // was refused.
 #[repr(C)]
-#[derive(Drop)]
+#[derive(Clone, Copy)]
 pub struct SizesResult {
     pub refusal: u32,
     pub subproblems: u32,

@@ -8,7 +8,7 @@ use answer_numbers::job_numbers::{
 use answer_numbers::{MatchResult, numbers};
 
 // What a start leaves and answers: the memory after the call, and the item that refused it, 0 for none.
-#[derive(Drop)]
+#[derive(Clone, Copy)]
 pub struct StartNumbers {
     pub job: JobMemory,
     pub refusal: u32,
@@ -33,7 +33,7 @@ pub fn start_numbers(
 }
 
 // What an advance leaves and answers.
-#[derive(Drop)]
+#[derive(Clone, Copy)]
 pub struct AdvanceNumbers {
     pub job: JobMemory,
     pub result: AdvanceResult,

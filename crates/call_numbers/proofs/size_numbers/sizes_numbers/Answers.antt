@@ -1,0 +1,8 @@
+-- `sizes_numbers` gives the numbers of the answer of `sizes`. Assumes nothing.
+use Rattle.call_numbers.specs.Answers.{sizes_numbers}
+use Rattle.call_numbers.proofs.size_numbers.sizes_numbers.Goals as goal
+
+pub returns : goal.returns
+returns c =
+    let n = c.sizes_result.ensures in
+    sizes_numbers c.sizes-a.ensures n.0 n.1 n.2 n.3

@@ -1,0 +1,31 @@
+-- `finish` refuses by the first of the items 1 to 15, 25 and 26 that applies, or makes the plan and goes on. Assumes nothing.
+use Rattle.formats.specs.Inputs.{input_sound}
+use mathlib.Core.Path.{◌≡◌, refl, sym, ap, ◌∙◌}
+use Rattle.model.specs.declared.MatchAnswer.TheVariants.{Refused}
+use Rattle.model.specs.Calls.{input_item}
+use Rattle.one_call.specs.Answers.{refused_number, refused_weight}
+use Rattle.job_items.specs.Items.{early_item, early_passed, finish_early}
+use borrow.Author.Rules.{rules}
+use Rattle.jobs.proofs.finish.Goals as goal
+
+pub returns-then-item-ne0 : goal.returns-then-item-ne0
+returns-then-item-ne0 c =
+    let a = c.args in
+    let e = c.early_item-item.ensures in
+    let q = e ∙ sym (finish_early a.table.now a.recorded.now a.found.now a.work.now a.job a.mapping.now (λ z. c.if-item-ne0.true (e ∙ z))) in
+    record { refused = λ n. record { given = ap Refused q; number = refused_number (ap Refused q); weighs = refused_weight (ap Refused q); work_kept = refl; mapping_kept = refl }; finished = λ z. absurd (c.if-item-ne0.true (q ∙ z)) }
+
+pub make-requires : goal.make-requires
+make-requires c =
+    let zero : let a = c.args in early_item a.job a.table.now a.recorded.now a.found.now a.work.now ≡ 0 = let z : c.early_item-item.result ≡ 0 = search rules in sym c.early_item-item.ensures ∙ z in
+    let passing : let a = c.args in input_item a.table.now a.recorded.now a.found.now ≡ 0 = let a = c.args in (early_passed a.table.now a.recorded.now a.found.now a.work.now a.job (zero)).0 in
+    record { plan_len = refl; sound = (input_sound _ _ _ (passing)).0; sound_2 = (input_sound _ _ _ (passing)).1 }
+
+pub finish_ready-requires : goal.finish_ready-requires
+finish_ready-requires c =
+    let zero : let a = c.args in early_item a.job a.table.now a.recorded.now a.found.now a.work.now ≡ 0 = let z : c.early_item-item.result ≡ 0 = search rules in sym c.early_item-item.ensures ∙ z in
+    let passing : let a = c.args in input_item a.table.now a.recorded.now a.found.now ≡ 0 = let a = c.args in (early_passed a.table.now a.recorded.now a.found.now a.work.now a.job (zero)).0 in
+    record { ready = record { passes = passing; planned = c.make.ensures }; work_value = zero }
+
+pub returns : goal.returns
+returns c = c.finish_ready.ensures
