@@ -36,7 +36,7 @@ use reading::read_full;
 use std::io;
 
 // What a step works on beside the buffers: how long the input is, how many work numbers and mapping bytes are lent, and the record.
-#[derive(Drop)]
+#[derive(Clone, Copy)]
 struct State {
     len: usize,
     lent: usize,
