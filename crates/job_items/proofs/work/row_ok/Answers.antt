@@ -1,6 +1,6 @@
 -- `row_ok` gathers the test over one row, by found vertex. The invariant: the slots below k are tested, and k is where those of v begin, or the end. Assumes nothing.
 use mathlib.Core.Path.{refl}
-use Prim.Native.Nat.{◌+◌, ◌-◌, ◌<◌}
+use Prim.Native.Nat.{◌+◌, ◌<◌}
 use native.Mathlib.Omega.{arith}
 use Rattle.foundations.specs.Lists.{every, every_end}
 use Rattle.foundations.specs.Machine.{Same, back}

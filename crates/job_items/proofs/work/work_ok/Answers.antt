@@ -1,5 +1,5 @@
 -- `work_ok` gathers the test over the rows. The invariant: row i begins at base, and the numbers before it are tested. Assumes nothing.
-use Prim.Native.Nat.{◌-◌, ◌<◌}
+use Prim.Native.Nat.{◌<◌}
 use native.Mathlib.Omega.{arith}
 use Rattle.model.specs.Limits.{vertex_limit, subproblem_limit}
 use Rattle.plan.specs.Numbers.{ready_sound, number_few}

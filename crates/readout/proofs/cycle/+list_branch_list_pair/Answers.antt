@@ -1,9 +1,7 @@
 -- `list_pair` and `list_branch` meet their contracts. Assumes nothing.
-use Rattle.std.proofs.Common.{◌-◌, ◌≤◌, ◌≡◌, length, ℕ, ◌+◌, ◌*◌, List, set, arith, refl}
-use Rattle.model.specs.Limits.{degree_limit, pair_limit}
+use Rattle.std.proofs.Common.{◌≡◌, ◌*◌, arith, refl}
 use Rattle.plan.specs.Pairs.{pair_low}
 use Rattle.solver.specs.Mates.{sub_pair}
-use Rattle.readout.specs.Read.{Room, Reading}
 use Rattle.readout.specs.CycleLaws.{branch_pairs, depth_some, branch_none, pair_start, pair_done, branch_room, branch_subproblem, branch_more}
 use Rattle.readout.proofs.cycle.+list_branch_list_pair.Goals as goal
 
