@@ -14,7 +14,7 @@ use Rattle.model.specs.declared.AdvanceAnswer.TheVariants.{Advanced}
 use Rattle.model.specs.Tree.{count}
 use Rattle.model.specs.Order.{width, subproblems}
 use Rattle.model.specs.Calls.{input_item}
-use Rattle.model.specs.Values.{values, answer}
+use Rattle.model.specs.Values.{values}
 use Rattle.model.specs.Jobs.{total_limit, record_ok, same_trees, is_left, work_ok, advance_item, finish_item, start_of, slice_count, advanced, advance_of, advance_work}
 use Rattle.formats.specs.Inputs.{Accepted, input_accepted}
 use Rattle.subtrees.specs.Filling.{values_long}

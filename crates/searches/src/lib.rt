@@ -40,12 +40,7 @@ pub fn count_searches(
 
 // Entry point.
 // Fills all work numbers too, the subproblems of one pair of vertices after the other, and adds up what each pair takes.
-pub fn tally_searches(
-    table: &[u8],
-    recorded: &[u8],
-    found: &[u8],
-    work: &mut [i32],
-) -> Tally
+pub fn tally_searches(table: &[u8], recorded: &[u8], found: &[u8], work: &mut [i32]) -> Tally
     ensures { TallyCall table.now recorded.now found.now work.old work.new result }
 {
     let item = start_item(table, recorded, found, work);

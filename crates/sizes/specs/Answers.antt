@@ -1,9 +1,8 @@
 -- The answer to how much to lend in each case, and in numbers. Assumes nothing.
-use Rattle.std.specs.Prelude.{◌≡◌, refl, ◌≢◌, List, ℕ}
+use Rattle.std.specs.Prelude.{◌≡◌, ◌≢◌, List, ℕ}
 use Rattle.std.proofs.Math.Path.{sym}
 use Rattle.std.proofs.Common.{ap, ◌∙◌}
 use borrow.Author.Tests.{ne_eqb}
-use Rattle.model.specs.declared.SizesAnswer.{SizesAnswer}
 use Rattle.model.specs.declared.SizesAnswer.TheVariants.{Sizes, Refused}
 use Rattle.model.specs.Order.{subproblems}
 use Rattle.model.specs.Calls.{input_item}

@@ -19,12 +19,12 @@ use Rattle.searches.proofs.count_searches.Goals as goal
 pub returns-then-item-ne0 : goal.returns-then-item-ne0
 returns-then-item-ne0 c =
     record {
-  number = c.start_item-item.ensures;
-  work_kept = λ n. refl;
-  counts_kept = λ n. refl;
-  filled = λ z. absurd (c.if-item-ne0.true z);
-  counted = λ z. absurd (c.if-item-ne0.true z);
-}
+      number = c.start_item-item.ensures;
+      work_kept = λ n. refl;
+      counts_kept = λ n. refl;
+      filled = λ z. absurd (c.if-item-ne0.true z);
+      counted = λ z. absurd (c.if-item-ne0.true z);
+    }
 
 pub make-requires : goal.make-requires
 make-requires c =
