@@ -1,7 +1,7 @@
 -- `lend_count`: over a job in any slices the counts that its advances give back add up to the count of subproblems; before that something is left, and then
 -- nothing. `lend_calls` says the same of the exported calls. Assumes nothing.
 use Rattle.std.specs.Prelude.{◌≡◌, cond, List, ℕ, ◌+◌, ◌-◌, ◌≤◌, min, length, take, ltb, ℤ}
-use Rattle.std.proofs.Common.{sym, ◌∙◌}
+use Rattle.std.proofs.Common.{◌∙◌}
 use Rattle.std.proofs.Math.Path.{ap}
 use native.Mathlib.Omega.{arith}
 use Rattle.model.specs.declared.JobRecord.{JobRecord}

@@ -1,6 +1,6 @@
 -- `others_row` meets its contract. Assumes nothing.
 use mathlib.Core.Path.{◌≡◌, refl}
-use Prim.Native.Nat.{◌-◌, ◌<◌}
+use Prim.Native.Nat.{◌<◌}
 use Rattle.model.specs.Limits.{degree_limit}
 use Rattle.records.specs.Others.{column_in}
 use Rattle.write.specs.Frames.{others_none, others_more}

@@ -1,6 +1,6 @@
 -- `put_pair` stores the record of each choice of s where the one before it ends. Assumes nothing.
 use mathlib.Core.Path.{◌≡◌, ap, ◌∙◌}
-use Prim.Native.Nat.{ℕ, ◌+◌, ◌*◌, ◌-◌, ◌<◌}
+use Prim.Native.Nat.{ℕ, ◌+◌, ◌*◌, ◌<◌}
 use lib.ListN.{length, get_or}
 use lib.IntN.{pos}
 use Rattle.foundations.specs.Machine.{Same, back}

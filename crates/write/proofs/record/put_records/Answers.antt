@@ -1,5 +1,4 @@
 -- `put_records` stores the records of one recorded vertex after the other. Assumes nothing.
-use Prim.Native.Nat.{◌-◌}
 use mathlib.Core.Path.{◌≡◌, ◌∙◌}
 use Rattle.model.specs.Tree.{count}
 use Rattle.trees.specs.Accepted.{whole}

@@ -1,6 +1,6 @@
 -- `put_row` stores the records of one found vertex after the other. Assumes nothing.
 use mathlib.Core.Path.{◌≡◌, ap, ◌∙◌}
-use Prim.Native.Nat.{ℕ, ◌+◌, ◌*◌, ◌-◌}
+use Prim.Native.Nat.{ℕ, ◌+◌, ◌*◌}
 use Rattle.model.specs.Order.{offset, width}
 use Rattle.model.specs.Tree.{count}
 use Rattle.trees.specs.Accepted.{whole}
