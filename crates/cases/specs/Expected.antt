@@ -8,7 +8,7 @@ use Rattle.model.specs.Certificate.{check_of}
 use Rattle.model.specs.Mapping.{Heaviest, weight, mapping_ok}
 use Rattle.model.specs.Sizes.{sizes_of}
 use Rattle.model.specs.Values.{answer}
-use Rattle.subtrees.specs.Theorems.{heaviest_exactly, quick_mapping}
+use Rattle.subtrees.proofs.Theorems.{heaviest_exactly, quick_mapping}
 
 -- a weight with a heaviest mapping, as n bytes; or the number of the item that turns the plant down; or a certificate and the number of the
 -- item that its check gives, 0 where it is accepted; or how much to lend

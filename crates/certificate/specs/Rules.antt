@@ -6,7 +6,7 @@ use Rattle.foundations.specs.Tests.{true→T, and_split, and_both}
 use Rattle.model.specs.Limits.{weight_limit}
 use Rattle.model.specs.Weights.{Weight, some, weighed}
 use Rattle.model.specs.Certificate.{eq_z, at_most}
-use Rattle.subtrees.specs.ValueRange.{not_forbidden}
+use Rattle.subtrees.proofs.ValueRange.{not_forbidden}
 
 pub eq_z_says : (a b : ℤ) → eq_z a b ≡ true → a ≡ b
 unfolding eq_z

@@ -25,9 +25,9 @@ use Rattle.trees.specs.Positions.{Sub, index_once}
 use Rattle.trees.specs.Rooted.{once_children}
 use Rattle.formats.specs.Inputs.{Accepted, input_accepted}
 use Rattle.subtrees.specs.Accepted.{recorded_tree, found_tree}
-use Rattle.subtrees.specs.Filling.{sub_here, index_low_at}
-use Rattle.subtrees.specs.Theorems.{quick_mapping, covered_heaviest}
-use Rattle.subtrees.specs.ValueRange.{vertex_range}
+use Rattle.subtrees.proofs.Filling.{sub_here, index_low_at}
+use Rattle.subtrees.proofs.Theorems.{quick_mapping, covered_heaviest}
+use Rattle.subtrees.proofs.ValueRange.{vertex_range}
 use Rattle.certificate.specs.Items.{check_passed}
 use Rattle.certificate.specs.Rules.{eq_z_says, at_most_says, weighed_some}
 

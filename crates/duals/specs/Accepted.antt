@@ -23,10 +23,10 @@ use Rattle.model.specs.Calls.{input_item}
 use Rattle.model.specs.Certificate.{head_mark, partner_mark, record_mark, partner_at, certificate_length, others, record_at, weight_in, mapping_in, value_in, child_dual, other_dual, value_of, eq_z, at_most, shape_ok, forbidden_ok, cover_ok, duals_ok, pair_ok, subproblem_ok, check_of}
 use Rattle.trees.specs.Neighbours.{once_neighbours}
 use Rattle.formats.specs.Inputs.{Accepted, input_accepted}
-use Rattle.subtrees.specs.Filling.{sub_here, index_low_at, branch_sub}
+use Rattle.subtrees.proofs.Filling.{sub_here, index_low_at, branch_sub}
 use Rattle.subtrees.specs.Matching.{best_ext}
-use Rattle.subtrees.specs.Theorems.{quick_mapping, solved_answer}
-use Rattle.subtrees.specs.ValueRange.{value_forbidden}
+use Rattle.subtrees.proofs.Theorems.{quick_mapping, solved_answer}
+use Rattle.subtrees.proofs.ValueRange.{value_forbidden}
 use Rattle.certificate.specs.Items.{check_none}
 use Rattle.certificate.specs.Rules.{eq_z_same}
 use Rattle.duals.specs.Left.{RecordLeft, FrontLeft}

@@ -13,9 +13,9 @@ use Rattle.model.specs.Pairs.{vertex_pair}
 use Rattle.model.specs.Values.{Subproblem, value, value_from, values, number, recalled}
 use Rattle.model.specs.Calls.{input_item}
 use Rattle.formats.specs.Inputs.{input_accepted}
-use Rattle.subtrees.specs.Filling.{values_long, values_at, recalled_values}
-use Rattle.subtrees.specs.Theorems.{work_solves}
-use Rattle.subtrees.specs.ValueRange.{value_range, vertex_range}
+use Rattle.subtrees.proofs.Filling.{values_long, values_at, recalled_values}
+use Rattle.subtrees.proofs.Theorems.{work_solves}
+use Rattle.subtrees.proofs.ValueRange.{value_range, vertex_range}
 use Rattle.duals.specs.Left.{DualsAt}
 
 -- no term is more than the sum

@@ -1,5 +1,5 @@
 -- The items of a tree from the fourth, fifth and sixth kind of test on, as the reader's functions test them; and the loops' steps. Assumes nothing.
-use Rattle.std.specs.Prelude.{◌≡◌, refl, ◌≢◌, Bool, true, false, ◌&&◌, ◌||◌, cond, not, List, [], ◌∷◌, ℕ, zero, suc, ◌+◌, ◌≤◌, ◌<◌, length, get_or, set, eqb}
+use Rattle.std.specs.Prelude.{◌≡◌, ◌≢◌, Bool, true, false, ◌&&◌, ◌||◌, cond, not, List, [], ◌∷◌, ℕ, zero, suc, ◌+◌, ◌≤◌, ◌<◌, length, get_or, set, eqb}
 use Rattle.std.proofs.Common.{sym, ◌∙◌, subst, ⊎_elim, arith, add-one, length-set, get_or-set_same, get_or-set_other, ext_get_or, eq-eqb, ne_eqb}
 use Rattle.foundations.specs.Tests.{same, same?, eqb_same, one_at_most}
 use Rattle.foundations.specs.Lists.{every, every_step, tab, length_tab, get_d_tab, tab_ext}
@@ -22,18 +22,8 @@ abbrev pub found_number : ℕ → ℕ
 found_number k = cond (eqb k 0) 0 (cond (eqb k 25) 26 (k + 5))
 
 -- a tree's items by what it passes
-abbrev six : ℕ → ℕ → Bool → Bool → Bool → Bool → Bool → Bool → List Item
+abbrev pub six : ℕ → ℕ → Bool → Bool → Bool → Bool → Bool → Bool → List Item
 six first twice a b c d e f = item first (not a) ∷ item (first + 1) (not b) ∷ item (first + 2) (not c) ∷ item (first + 3) (not d) ∷ item (first + 4) (not e) ∷ item twice (not f) ∷ []
-
-shift : (a b c d e f : Bool) → first_of (six 8 26 a b c d e f) ≡ found_number (first_of (six 3 25 a b c d e f))
-unfolding first_of
-shift false b c d e f = refl
-shift true false c d e f = refl
-shift true true false d e f = refl
-shift true true true false e f = refl
-shift true true true true false f = refl
-shift true true true true true false = refl
-shift true true true true true true = refl
 
 small : (a b c d e f : Bool) → first_of (six 3 25 a b c d e f) ≤ 25
 unfolding first_of
@@ -48,10 +38,6 @@ small true true true true true true = omega arith
 pub item_small : (s : List ℕ) (K L : ℕ) → tree_item 3 25 s K L ≤ 25
 unfolding tree_item
 item_small s K L = small (sized s && marked s (count s)) (labels_known s (count s) K L) (ends_low s (count s)) (acyclic s (count s)) (few_edges s (count s)) (serials_differ s (count s))
-
-pub found_shift : (s : List ℕ) (K L : ℕ) → tree_item 8 26 s K L ≡ found_number (tree_item 3 25 s K L)
-unfolding tree_item
-found_shift s K L = shift (sized s && marked s (count s)) (labels_known s (count s) K L) (ends_low s (count s)) (acyclic s (count s)) (few_edges s (count s)) (serials_differ s (count s))
 
 -- ---- one turn of the test for cycles, of the merging, and of a degree
 

@@ -13,7 +13,8 @@ use Rattle.model.specs.Mapping.{IsMapping, Heaviest, weight}
 use Rattle.model.specs.Values.{values, largest, recalled, Solves}
 use Rattle.model.specs.Match.{refusal_of, weight_of}
 use Rattle.model.specs.Jobs.{Finished}
-use Rattle.subtrees.specs.Theorems.{work_solves, empty_mapping, empty_heaviest, heaviest_exactly}
+use Rattle.subtrees.proofs.Theorems.{work_solves, empty_mapping, heaviest_exactly}
+use Rattle.subtrees.proofs.Following.{empty_heaviest}
 use Rattle.readout.specs.Read.{WorkFits}
 use Rattle.readout.specs.CycleLaws.{ReadOut}
 use Rattle.readout.specs.ReadTheorems.{read_mapping, top_allowed, read_heaviest}

@@ -17,8 +17,8 @@ use Rattle.model.specs.Jobs.{number_ok, work_ok, is_left, finish_item}
 use Rattle.trees.specs.Positions.{Sub, index_once}
 use Rattle.formats.specs.Inputs.{Accepted, input_accepted}
 use Rattle.subtrees.specs.Accepted.{recorded_tree, found_tree}
-use Rattle.subtrees.specs.Filling.{sub_here, index_low_at}
-use Rattle.subtrees.specs.Theorems.{values_range}
+use Rattle.subtrees.proofs.Filling.{sub_here, index_low_at}
+use Rattle.subtrees.proofs.Theorems.{values_range}
 use Rattle.subtrees.specs.Trees.{IsTree}
 use Rattle.readout.specs.Read.{WorkFits}
 use Rattle.job_items.specs.Items.{early_passed, advance_passed, finish_passed}

@@ -17,8 +17,8 @@ use Rattle.model.specs.Calls.{input_item}
 use Rattle.model.specs.Values.{values}
 use Rattle.model.specs.Jobs.{total_limit, record_ok, same_trees, is_left, work_ok, advance_item, finish_item, start_of, slice_count, advanced, advance_of, advance_work}
 use Rattle.formats.specs.Inputs.{Accepted, input_accepted}
-use Rattle.subtrees.specs.Filling.{values_long}
-use Rattle.subtrees.specs.Theorems.{fill_prefix}
+use Rattle.subtrees.proofs.Filling.{values_long}
+use Rattle.subtrees.proofs.Theorems.{fill_prefix}
 use Rattle.job_items.specs.Items.{start_none, early_item, early_none, advance_none, finish_then, finish_none}
 use Rattle.jobs.specs.Fits.{values_pass}
 use Rattle.jobs.specs.Outcomes.{advance_accepted, advance_fills}

@@ -13,7 +13,7 @@ use Rattle.model.specs.Writing.{room_item, write_item}
 use Rattle.model.specs.Sizes.{SizesNumbers}
 use Rattle.trees.specs.Items.{first_here, first_then}
 use Rattle.formats.specs.Inputs.{input_accepted}
-use Rattle.subtrees.specs.Filling.{values_long}
+use Rattle.subtrees.proofs.Filling.{values_long}
 use Rattle.job_items.specs.Items.{start_work, start_none, start_numbered, regroup}
 use Rattle.answer_numbers.specs.declared.job_numbers.JobMemory.{JobMemory}
 use Rattle.answer_numbers.specs.Memory.{record_of}

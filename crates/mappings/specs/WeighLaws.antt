@@ -16,7 +16,7 @@ use Rattle.model.specs.Weights.{is_forbidden, Weight, none, some, weighed}
 use Rattle.trees.specs.Directions.{label_seen, EdgeSeen, edge_seen, known_seen, seen_first}
 use Rattle.trees.specs.Neighbours.{Adjacent, joined_says, says_joined}
 use Rattle.formats.specs.Inputs.{Accepted, accepted_sound}
-use Rattle.subtrees.specs.ValueRange.{vertex_range, edge_range}
+use Rattle.subtrees.proofs.ValueRange.{vertex_range, edge_range}
 use Rattle.plan.specs.Pairs.{VertexPair, EdgePair}
 
 -- what the sum is taken over: inputs that pass, and bytes that begin with a mapping

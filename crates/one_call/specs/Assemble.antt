@@ -1,7 +1,7 @@
 -- What a call has read stands for the table and the trees. Assumes nothing.
 use Rattle.std.specs.Prelude.{◌≡◌, List, ℕ, ℤ}
 use Rattle.model.specs.Values.{fill}
-use Rattle.subtrees.specs.Filling.{length_fill}
+use Rattle.subtrees.proofs.Filling.{length_fill}
 use Rattle.plan.specs.Plan.{Ready, Lent}
 use Rattle.plan.specs.Numbers.{ready_recorded, ready_sound}
 use Rattle.one_call.specs.Top.{AllAt}

@@ -11,7 +11,8 @@ use Rattle.model.specs.Order.{subproblems}
 use Rattle.model.specs.Calls.{input_item}
 use Rattle.model.specs.Mapping.{Heaviest, weight}
 use Rattle.model.specs.Values.{values, answer, largest, recalled, fill, Solves}
-use Rattle.subtrees.specs.Theorems.{fill_values, work_solves, solved_answer, empty_heaviest, heaviest_exactly}
+use Rattle.subtrees.proofs.Theorems.{fill_values, work_solves, solved_answer, heaviest_exactly}
+use Rattle.subtrees.proofs.Following.{empty_heaviest}
 use Rattle.readout.specs.CycleLaws.{ReadOut}
 use Rattle.readout.specs.ReadTheorems.{read_heaviest}
 use Rattle.one_call.specs.Top.{TopOf, top_largest}

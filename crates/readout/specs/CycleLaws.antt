@@ -14,7 +14,7 @@ use Rattle.model.specs.Tree.{count}
 use Rattle.model.specs.Values.{Subproblem}
 use Rattle.formats.specs.Inputs.{input_accepted}
 use Rattle.subtrees.specs.Accepted.{recorded_tree, found_tree}
-use Rattle.subtrees.specs.Optimal.{no_no_vertex}
+use Rattle.subtrees.proofs.Optimal.{no_no_vertex}
 use Rattle.subtrees.specs.Trees.{IsTree}
 use Rattle.solver.specs.Choice.{ChoiceAt}
 use Rattle.plan.specs.Plan.{child_count_in, child_in, Ready}

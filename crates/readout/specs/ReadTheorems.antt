@@ -20,13 +20,13 @@ use Rattle.model.specs.Values.{best, branch, recalled, value_from, Subproblem, S
 use Rattle.model.specs.Weights.{Weight, none, some, plus_w}
 use Rattle.formats.specs.Inputs.{input_accepted}
 use Rattle.subtrees.specs.Accepted.{recorded_tree, found_tree}
-use Rattle.subtrees.specs.Bound.{own_s, own_cases}
+use Rattle.subtrees.proofs.Bound.{own_s, own_cases}
 use Rattle.subtrees.specs.Connected.{climb_cases, inner_of, of_inner, under_deep}
-use Rattle.subtrees.specs.Mappings.{agree_self, problem, of_theory, weight_is}
+use Rattle.subtrees.proofs.Mappings.{agree_self, problem, of_theory, weight_is}
 use Rattle.subtrees.specs.Onward.{under?}
-use Rattle.subtrees.specs.Optimal.{rooting, no_no_vertex, solves_heaviest}
+use Rattle.subtrees.proofs.Optimal.{rooting, no_no_vertex, solves_heaviest}
 use Rattle.subtrees.specs.Problem.{Instance, weight_of}
-use Rattle.subtrees.specs.Readout.{Readout, Chosen, Reads, reads_tight, readout_is_mapping, readout_value}
+use Rattle.subtrees.proofs.Readout.{Readout, Chosen, Reads, reads_tight, readout_is_mapping, readout_value}
 use Rattle.subtrees.specs.Rooted.{inner}
 use Rattle.subtrees.specs.Trees.{IsTree, falls, joined_mem, mem_joined, joined_swap}
 use Rattle.subtrees.specs.WeightLaws.{none≢some, plus_some, some_num, some_inj}

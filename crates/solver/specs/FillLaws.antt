@@ -19,7 +19,7 @@ use Rattle.trees.specs.Rooted.{no_self, child_of_lem, once_children}
 use Rattle.trees.specs.Positions.{sub_at, index_child}
 use Rattle.assignment.specs.Matching.{cell}
 use Rattle.subtrees.specs.Matching.{best_ext}
-use Rattle.subtrees.specs.Filling.{length_fill, fill_more, fill_keeps, solve_forbidden, solve_stored}
+use Rattle.subtrees.proofs.Filling.{length_fill, fill_more, fill_keeps, solve_forbidden, solve_stored}
 use Rattle.plan.specs.Plan.{degree_in, offset_in, order_in, Ready, Lent, Pair}
 use Rattle.plan.specs.Numbers.{Located, ready_accepted, number_u, offsets_are, rest_in, number_v, number_s}
 use Rattle.plan.specs.Pairs.{VertexPair, gain_at, Filled, weighed_none, weighed_number, children_few, degree_few}

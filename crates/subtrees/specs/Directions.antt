@@ -1,12 +1,11 @@
 -- What directions mean for pairs of edges and for mappings, in the words of paper 02, [6]: its flow lines are directed edges. Assumes nothing.
 use Rattle.std.specs.Prelude.{◌≡◌, ◌≢◌, Bool, not, ◌&&◌, ◌||◌, List, ℕ, ◌≤◌}
 use Rattle.std.proofs.Math.Path.{refl}
-use Rattle.std.proofs.Common.{sym, ◌∙◌, true≢false, arith}
+use Rattle.std.proofs.Common.{sym, true≢false, arith}
 use Rattle.std.proofs.Math.Bool.{true, false, cond}
 use Rattle.std.proofs.lemmas.Bool.{lt-leb}
 use Rattle.model.specs.Graph.{edges, joined, edge_label, directed, upstream}
 use Rattle.model.specs.Limits.{directed_from}
-use Rattle.model.specs.Mapping.{Mapped, partner, IsMapping}
 use Rattle.model.specs.Pairs.{same_direction, directions_agree, edge_pair}
 use Rattle.model.specs.Table.{edge_labels, edge_weight}
 use Rattle.model.specs.Tree.{count}
@@ -74,19 +73,3 @@ few_undirected table recorded found A h = (
   λ u u' j. lt-leb directed_from (edge_label recorded u u') (omega (arith, label_known recorded _ _ A.recorded u u' (joined_says recorded (count recorded) u u' (edges recorded) j))),
   λ v v' j. lt-leb directed_from (edge_label found v v') (omega (arith, label_known found _ _ A.found v v' (joined_says found (count found) v v' (edges found) j))),
 )
-
--- a mapping takes flow lines to flow lines, and upstream ends to upstream ends
-same_or : (a b : Bool) → ((a ≢ b) → ⊥) → a ≡ b
-same_or true true n = refl
-same_or true false n = absurd (n true≢false)
-same_or false true n = absurd (n (λ e. true≢false (sym e)))
-same_or false false n = refl
-
-module _ (table recorded found p : List ℕ) (A : Accepted table recorded found) (M : IsMapping table recorded found p) (u x : ℕ) (mu : Mapped recorded p u) (mx : Mapped recorded p x)
-    (j : joined recorded u x ≡ true) where
-  pub respects_flow : directed (edge_label recorded u x) ≡ directed (edge_label found (partner p u) (partner p x))
-  respects_flow = same_or _ _ (λ n. M.edge_allowed u x mu mx j (mixed_forbidden table recorded found u x (partner p u) (partner p x) n))
-
-  pub respects_upstream : directed (edge_label recorded u x) ≡ true → upstream recorded u x ≡ upstream found (partner p u) (partner p x)
-  respects_upstream d = same_or _ _ (λ n. M.edge_allowed u x mu mx j
-      (against_forbidden table recorded found u x (partner p u) (partner p x) A j (sym (M.joined_alike u x mu mx) ∙ j) d (sym respects_flow ∙ d) n))

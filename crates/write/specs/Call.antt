@@ -9,7 +9,7 @@ use Rattle.model.specs.Tree.{count}
 use Rattle.model.specs.Mapping.{Heaviest}
 use Rattle.model.specs.Values.{values, value_at, answer}
 use Rattle.formats.specs.Inputs.{input_accepted}
-use Rattle.subtrees.specs.Filling.{values_long}
+use Rattle.subtrees.proofs.Filling.{values_long}
 use Rattle.certificate.specs.Length.{length_closed, record_inside}
 use Rattle.certificate.specs.Sound.{certificate_sound}
 use Rattle.one_call.specs.Call.{Solved}

@@ -9,7 +9,7 @@ use Rattle.model.specs.Calls.{input_item}
 use Rattle.model.specs.Jobs.{start_item}
 use Rattle.model.specs.Values.{fill}
 use Rattle.formats.specs.Inputs.{input_sound}
-use Rattle.subtrees.specs.Filling.{length_fill}
+use Rattle.subtrees.proofs.Filling.{length_fill}
 use Rattle.plan.specs.Plan.{Ready}
 use Rattle.assignment.specs.Counts.{none_countable}
 use Rattle.solver.specs.Bound.{most_few}

@@ -8,7 +8,7 @@ use Rattle.model.specs.Order.{subproblems}
 use Rattle.model.specs.Calls.{input_item}
 use Rattle.model.specs.Jobs.{start_item}
 use Rattle.formats.specs.Inputs.{input_sound}
-use Rattle.subtrees.specs.Filling.{length_fill}
+use Rattle.subtrees.proofs.Filling.{length_fill}
 use Rattle.plan.specs.Plan.{Ready}
 use Rattle.job_items.specs.Items.{start_passed}
 use Rattle.searches.specs.Bounds.{bound_all}

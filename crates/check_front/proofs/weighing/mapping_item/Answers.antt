@@ -9,7 +9,7 @@ use Rattle.model.specs.Tree.{count}
 use Rattle.model.specs.Mapping.{IsMapping, mapping_ok, weight}
 use Rattle.model.specs.Certificate.{mapping_in, weight_in, eq_z}
 use Rattle.plan.specs.Numbers.{ready_accepted}
-use Rattle.subtrees.specs.Theorems.{quick_mapping}
+use Rattle.subtrees.proofs.Theorems.{quick_mapping}
 use Rattle.check_front.specs.Marks.{front_inside}
 use Rattle.check_front.specs.Weighing.{PartnersOf, weights_compared, item_21, item_22, item_none}
 use mathlib.Core.Bool.{not}

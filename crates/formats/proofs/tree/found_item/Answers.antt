@@ -1,6 +1,7 @@
 -- `found_item` meets its contract. Assumes nothing.
 use mathlib.Core.Path.{ap, ◌∙◌}
-use Rattle.formats.specs.TreeItems.{found_number, found_shift, item_small}
+use Rattle.formats.specs.TreeItems.{found_number, item_small}
+use Rattle.formats.proofs.FoundShift.{found_shift}
 use Rattle.formats.proofs.tree.found_item.Goals as goal
 
 pub found_number-requires : goal.found_number-requires

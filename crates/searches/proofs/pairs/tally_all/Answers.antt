@@ -7,7 +7,7 @@ use lib.ListN.{length}
 use Rattle.model.specs.Tree.{count}
 use Rattle.model.specs.Order.{width, subproblems}
 use Rattle.trees.specs.Accepted.{whole}
-use Rattle.subtrees.specs.Filling.{length_fill}
+use Rattle.subtrees.proofs.Filling.{length_fill}
 use Rattle.plan.specs.Plan.{order_in}
 use Rattle.plan.specs.Numbers.{ready_accepted, ready_sound, number_few}
 use Rattle.solver.specs.FillLaws.{RowRun, fill_none, fill_slice, fill_lent}

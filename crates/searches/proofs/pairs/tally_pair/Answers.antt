@@ -4,7 +4,7 @@ use native.Mathlib.Omega.{arith}
 use lib.ListN.{length}
 use Rattle.model.specs.Graph.{neighbours}
 use Rattle.model.specs.Order.{children}
-use Rattle.subtrees.specs.Filling.{length_fill}
+use Rattle.subtrees.proofs.Filling.{length_fill}
 use Rattle.plan.specs.Numbers.{ready_accepted}
 use Rattle.plan.specs.Pairs.{children_few, degree_few}
 use Rattle.assignment.specs.Counts.{none_countable}

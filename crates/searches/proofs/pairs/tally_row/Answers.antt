@@ -10,7 +10,7 @@ use Rattle.model.specs.Tree.{count}
 use Rattle.model.specs.Graph.{neighbours}
 use Rattle.model.specs.Order.{offset, width}
 use Rattle.trees.specs.Accepted.{whole}
-use Rattle.subtrees.specs.Filling.{length_fill}
+use Rattle.subtrees.proofs.Filling.{length_fill}
 use Rattle.plan.specs.Numbers.{ready_accepted, ready_sound, number_few, offset_width, offsets_are}
 use Rattle.solver.specs.FillLaws.{fill_none, fill_slice, fill_lent}
 use Rattle.searches.specs.Calls.{Tallied}

@@ -1,7 +1,7 @@
 -- `fill` meets its contract. Assumes nothing.
 use Rattle.solver.specs.Bound.{most_few}
 use Rattle.assignment.specs.Counts.{none_countable}
-use Rattle.subtrees.specs.Filling.{length_fill}
+use Rattle.subtrees.proofs.Filling.{length_fill}
 use lib.ListN.{length}
 use mathlib.Core.Path.{ap, ◌∙◌}
 use Rattle.solver.proofs.fill.fill.Goals as goal

@@ -3,7 +3,7 @@ use Rattle.solver.specs.FillLaws.{lesser_is, fill_none, fill_slice, fill_lent, r
 use Rattle.solver.specs.Bound.{begins, most_more, most_upto, lesser_less, begins_row}
 use Rattle.assignment.specs.Counts.{countable_less, countable_after, searches_none, searches_both, searches_few}
 use Rattle.plan.specs.Numbers.{number_low, number_few, ready_sound}
-use Rattle.subtrees.specs.Filling.{length_fill}
+use Rattle.subtrees.proofs.Filling.{length_fill}
 use Prim.Native.Nat.{ℕ, ◌+◌}
 use lib.ListN.{length}
 use mathlib.Core.Bool.{true}

@@ -5,7 +5,7 @@ use Rattle.assignment.specs.Counts.{countable_less, countable_after, searches_no
 use Rattle.plan.specs.Plan.{offset_in}
 use Rattle.plan.specs.Numbers.{Located, ready_accepted, number_few, offsets_are}
 use Rattle.model.specs.Order.{offset}
-use Rattle.subtrees.specs.Filling.{length_fill}
+use Rattle.subtrees.proofs.Filling.{length_fill}
 use Prim.Native.Nat.{ℕ, ◌+◌}
 use lib.ListN.{length}
 use mathlib.Core.Logic.{⊎_elim}

@@ -24,11 +24,11 @@ use Rattle.trees.specs.Neighbours.{Adjacent, adjacent_back, mem_adjacent}
 use Rattle.trees.specs.Rooted.{up_edge}
 use Rattle.formats.specs.Inputs.{Accepted}
 use Rattle.subtrees.specs.Accepted.{recorded_tree, found_tree}
-use Rattle.subtrees.specs.Mappings.{agree_self, problem, to_theory, weight_is}
+use Rattle.subtrees.proofs.Mappings.{agree_self, problem, to_theory, weight_is}
 use Rattle.subtrees.specs.Matching.{best_some, best_nonneg}
-use Rattle.subtrees.specs.Optimal.{rooting, value_solves, value_solved}
+use Rattle.subtrees.proofs.Optimal.{rooting, value_solves, value_solved}
 use Rattle.subtrees.specs.Problem.{Instance, Choice}
-use Rattle.subtrees.specs.Range.{Small, weight_size, value_high}
+use Rattle.subtrees.proofs.Range.{Small, weight_size, value_high}
 use Rattle.subtrees.specs.Trees.{IsTree}
 use Rattle.subtrees.specs.WeightLaws.{none≢some, plus_some, some_inj}
 

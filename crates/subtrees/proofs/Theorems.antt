@@ -1,7 +1,6 @@
 -- The theorems over bytes, for every table and two trees that items 1 to 12, 25 and 26 let pass. Each statement has only definitions of `model`.
 -- Assumes nothing.
 use Rattle.std.specs.Prelude.{◌≡◌, ◌⊎◌, ◌≢◌, ◌↔◌, true, List, ◌++◌, ℕ, ◌+◌, ◌≤◌, ◌<◌, ℤ, pos, neg_ℤ, ◌≤ℤ◌, length, get_or, drop, take, replicate}
-use Rattle.std.proofs.Common.{sym, ◌∙◌}
 use Rattle.model.specs.Calls.{input_item}
 use Rattle.model.specs.Duals.{AllCover}
 use Rattle.model.specs.Limits.{weight_limit, forbidden, ceiling, no_vertex}
@@ -13,11 +12,11 @@ use Rattle.model.specs.Values.{Subproblem, Solves, value, largest, answer, numbe
 use Rattle.model.specs.Weights.{Weight, none}
 use Rattle.formats.specs.Inputs.{Accepted, input_accepted}
 use Rattle.subtrees.specs.Accepted.{recorded_tree, found_tree}
-use Rattle.subtrees.specs.Filling.{fill_right, fill_all, recalled_solves, values_in_range, value_clipped}
-use Rattle.subtrees.specs.Optimal.{value_solves, bounding_bounds, solves_bounds, solves_attained, solves_heaviest, solves_largest, empty_is_mapping, empty_weighs, covered_bounding}
-use Rattle.subtrees.specs.QuickTest.{quick_test}
+use Rattle.subtrees.proofs.Filling.{fill_right, fill_all, recalled_solves, values_in_range, value_clipped}
+use Rattle.subtrees.proofs.Optimal.{value_solves, bounding_bounds, solves_bounds, solves_attained, solves_heaviest, solves_largest, empty_is_mapping, empty_weighs, covered_bounding}
+use Rattle.subtrees.proofs.QuickTest.{quick_test}
 use Rattle.subtrees.specs.Trees.{IsTree}
-use Rattle.subtrees.specs.ValueRange.{weight_in_range}
+use Rattle.subtrees.proofs.ValueRange.{weight_in_range}
 
 module _ (table recorded found : List ℕ) (passes : input_item table recorded found ≡ 0) where
   A : Accepted table recorded found
@@ -56,18 +55,10 @@ module _ (table recorded found : List ℕ) (passes : input_item table recorded f
   pub weight_range : (p : List ℕ) → IsMapping table recorded found p → (neg_ℤ (pos ceiling) ≤ℤ weight table recorded found p) × (weight table recorded found p ≤ℤ pos ceiling)
   weight_range = weight_in_range table recorded found A
 
-  pub answer_range : (pos 0 ≤ℤ answer table recorded found) × (answer table recorded found ≤ℤ pos ceiling)
-  answer_range = (rw empty_mapping.1 at (mapping_bounded (replicate (count recorded) no_vertex) empty_mapping.0), rw attained.2 at (weight_range attained.0 attained.1).1)
-
   -- ---- 4. the quick test decides
 
   pub quick_mapping : (p : List ℕ) → (mapping_ok table recorded found p ≡ true) ↔ IsMapping table recorded found p
   quick_mapping = quick_test table recorded found tr tf
-
-  -- ---- 5. the empty mapping is a heaviest one where no value with s = v is above 0
-
-  pub empty_heaviest : (given : ℕ → ℕ → ℕ → Weight) → Solves table recorded found given → largest recorded found given ≡ pos 0 → Heaviest table recorded found (replicate (count recorded) no_vertex)
-  empty_heaviest given S e = (solves_heaviest table recorded found tr tf given S (replicate (count recorded) no_vertex)).1 (empty_mapping.0, empty_mapping.1 ∙ sym e)
 
   -- ---- 6. the values
 

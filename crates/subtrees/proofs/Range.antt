@@ -7,7 +7,7 @@ use Rattle.foundations.specs.Sums.{size, size_plus, size_pick, sumℤ_size, sum�
 use Rattle.foundations.specs.Sums.{pick, sumℤ}
 use Rattle.model.specs.Weights.{Weight, some, ◌⊑◌}
 use Rattle.subtrees.specs.Connected.{of_inner, root_not_inner, Joined}
-use Rattle.subtrees.specs.HandDown.{attained}
+use Rattle.subtrees.proofs.HandDown.{attained}
 use Rattle.subtrees.specs.Matching.{best_mono}
 use Rattle.subtrees.specs.Problem.{Instance, Mapping, vertex_w, edge_w, weight_of, Choice, choice_self, branch_w, available, Solved}
 use Rattle.subtrees.specs.Quick.{FoundRooting}

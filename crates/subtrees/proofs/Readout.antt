@@ -10,12 +10,13 @@ use Rattle.foundations.specs.Sums.{sumℤ_unique}
 use Rattle.foundations.specs.Sums.{pick, pick_eq, lsum}
 use Rattle.model.specs.Mapping.{num}
 use Rattle.model.specs.Weights.{Weight, none, some}
-use Rattle.subtrees.specs.Bound.{own_s, own_cases, own_inner, own_v}
+use Rattle.subtrees.proofs.Bound.{own_s, own_cases, own_inner, own_v}
 use Rattle.subtrees.specs.Connected.{inner_of, of_inner, of_top, top_of, Joined, OneTop, set_ind}
 use Rattle.subtrees.specs.Matching.{Assign, gain}
 use Rattle.subtrees.specs.Onward.{Came, came_start, came_on, came_last, came_away}
 use Rattle.subtrees.specs.Problem.{Instance, Mapping, vertex_w, edge_w, weight_of, branch_w, available}
-use Rattle.subtrees.specs.Quick.{FoundRooting, Quick, quick_is_mapping}
+use Rattle.subtrees.specs.Quick.{FoundRooting, Quick}
+use Rattle.subtrees.proofs.QuickMapping.{quick_is_mapping}
 use Rattle.subtrees.specs.Rooted.{inner, top, total, total_eq}
 use Rattle.subtrees.specs.WeightLaws.{none≢some, plus_some}
 

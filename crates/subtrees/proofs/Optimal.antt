@@ -18,10 +18,10 @@ use Rattle.model.specs.Tree.{count}
 use Rattle.model.specs.Values.{greatest, value_from, Solves, value_to, value, largest, answer}
 use Rattle.model.specs.Weights.{Weight, none, some, ◌⊑◌}
 use Rattle.trees.specs.Rooted.{depth_count}
-use Rattle.subtrees.specs.Bound.{solved_bounding}
+use Rattle.subtrees.proofs.Bound.{solved_bounding}
 use Rattle.subtrees.specs.Duals.{duals_bounding}
-use Rattle.subtrees.specs.Largest.{largest_w, largest_bounds, empty, empty_weight, largest_attained}
-use Rattle.subtrees.specs.Mappings.{Agree, agree_self, problem, to_theory, of_theory, weight_is}
+use Rattle.subtrees.proofs.Largest.{largest_w, largest_bounds, empty, empty_weight, largest_attained}
+use Rattle.subtrees.proofs.Mappings.{Agree, agree_self, problem, to_theory, of_theory, weight_is}
 use Rattle.subtrees.specs.Problem.{Instance, Mapping, weight_of, Choice, Solved, Bounding}
 use Rattle.subtrees.specs.Quick.{FoundRooting}
 use Rattle.subtrees.specs.Recursion.{run_solved}

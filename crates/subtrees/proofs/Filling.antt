@@ -26,9 +26,9 @@ use Rattle.trees.specs.Rooted.{child_of_lem}
 use Rattle.formats.specs.Inputs.{Accepted}
 use Rattle.subtrees.specs.Accepted.{recorded_tree, found_tree}
 use Rattle.subtrees.specs.Matching.{best_ext}
-use Rattle.subtrees.specs.Optimal.{value_solves}
+use Rattle.subtrees.proofs.Optimal.{value_solves}
 use Rattle.subtrees.specs.Trees.{IsTree, joined_swap, joined_mem, mem_joined}
-use Rattle.subtrees.specs.ValueRange.{not_forbidden, value_range, value_forbidden}
+use Rattle.subtrees.proofs.ValueRange.{not_forbidden, value_range, value_forbidden}
 use Rattle.subtrees.specs.WeightLaws.{none≢some}
 
 -- ---- over any bytes and any work

@@ -6,9 +6,9 @@ use Rattle.foundations.specs.Members.{mem, mem_below, below_mem}
 use Rattle.foundations.specs.Sums.{sumℤ_zero}
 use Rattle.model.specs.Values.{greatest}
 use Rattle.model.specs.Weights.{Weight, none, some, ◌⊑◌}
-use Rattle.subtrees.specs.Bound.{upper}
+use Rattle.subtrees.proofs.Bound.{upper}
 use Rattle.subtrees.specs.Connected.{ConnectedSet}
-use Rattle.subtrees.specs.HandDown.{attained}
+use Rattle.subtrees.proofs.HandDown.{attained}
 use Rattle.subtrees.specs.Problem.{Instance, Mapping, weight_of, Solved, Bounding}
 use Rattle.subtrees.specs.Quick.{FoundRooting}
 use Rattle.subtrees.specs.Rooted.{inner, total}

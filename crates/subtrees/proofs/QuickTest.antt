@@ -20,8 +20,9 @@ use Rattle.model.specs.Pairs.{vertex_pair, edge_pair}
 use Rattle.model.specs.Tree.{count}
 use Rattle.model.specs.Weights.{Weight, none, some}
 use Rattle.subtrees.specs.Connected.{OneTop}
-use Rattle.subtrees.specs.Mappings.{agree_self, problem, to_theory, of_theory}
-use Rattle.subtrees.specs.Quick.{mapping_is_quick, quick_is_mapping}
+use Rattle.subtrees.proofs.Mappings.{agree_self, problem, to_theory, of_theory}
+use Rattle.subtrees.specs.Quick.{mapping_is_quick}
+use Rattle.subtrees.proofs.QuickMapping.{quick_is_mapping}
 use Rattle.subtrees.specs.Rooted.{inner, top}
 use Rattle.subtrees.specs.Trees.{IsTree, joined_mem, mem_joined, found_rooting}
 use Rattle.subtrees.specs.WeightLaws.{none≢some}

@@ -12,12 +12,12 @@ use Rattle.foundations.specs.Sums.{pick}
 use Rattle.foundations.specs.Tests.{same, eqb_same}
 use Rattle.model.specs.Values.{best}
 use Rattle.model.specs.Weights.{Weight, some, plus_w}
-use Rattle.subtrees.specs.Bound.{own_s, own_cases, own_inner}
+use Rattle.subtrees.proofs.Bound.{own_s, own_cases, own_inner}
 use Rattle.subtrees.specs.Connected.{inner_of, of_inner, set_ind}
 use Rattle.subtrees.specs.Matching.{Assign, gain, Attained, best_attained, assign_ext}
 use Rattle.subtrees.specs.Problem.{Instance, Mapping, weight_of, Choice, choice_self, choice_near, branch_w, available, Solved}
 use Rattle.subtrees.specs.Quick.{FoundRooting}
-use Rattle.subtrees.specs.Readout.{readout_is_mapping, readout_value, Chosen, Reads, reads_readout, reads_tight}
+use Rattle.subtrees.proofs.Readout.{readout_is_mapping, readout_value, Chosen, Reads, reads_readout, reads_tight}
 use Rattle.subtrees.specs.Rooted.{inner}
 use Rattle.subtrees.specs.WeightLaws.{plus_some, some_inj}
 
