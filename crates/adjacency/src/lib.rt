@@ -94,7 +94,8 @@ fn from_second(l: u8) -> u8
     requires { l < edge_label_limit }
     ensures { result ≡ from_second l }
 {
-    if l < Limits::DIRECTED {
+    let undirected = l < Limits::DIRECTED;
+    if undirected {
         return l;
     }
     l + Limits::EDGE_LABELS

@@ -423,7 +423,8 @@ pub fn partner(g: &Gains, l: usize, c: usize, m: &Row, i: usize) -> u8
     if l <= j {
         return FREE;
     }
-    if kept(c, j, g[i * Limits::PLACES + j]) == 0 {
+    let none = kept(c, j, g[i * Limits::PLACES + j]) == 0;
+    if none {
         return FREE;
     }
     t

@@ -5,7 +5,7 @@ use Rattle.std.proofs.Common.{sym, ap, ◌∙◌, ⊎_elim}
 use Rattle.foundations.specs.Tests.{same?}
 use Rattle.model.specs.declared.JobRecord.{JobRecord}
 use Rattle.model.specs.Jobs.{start_item, advance_item, start_of, advance_of}
-use Rattle.jobs.specs.Theorems.{start_keeps, advance_keeps}
+use Rattle.jobs.proofs.Theorems.{start_keeps, advance_keeps}
 use Rattle.answer_numbers.specs.declared.job_numbers.JobMemory.{JobMemory}
 use Rattle.answer_numbers.specs.Memory.{record_of, memory_after, start_memory, advance_memory}
 use Rattle.answer_numbers.specs.ByItem.{record_back, after_refused, after_accepted}

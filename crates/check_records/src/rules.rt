@@ -66,7 +66,8 @@ fn pair_weight(
     requires { Ruling g.old table.now recorded.now found.now plan.now places.now z.now at s }
     ensures { PairRead table.now recorded.now found.now plan.now z.now s.cursor.i s.cursor.v g.new result }
 {
-    if s.cursor.q != 0 {
+    let inside = s.cursor.q != 0;
+    if inside {
         return s.weight;
     }
     let u = in_order(plan, s.cursor.i);

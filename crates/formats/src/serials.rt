@@ -43,7 +43,8 @@ fn is_new(serials: &[u32; Limits::ROWS], v: usize) -> bool
     ensures { result ≡ new_in serials.now v }
 {
     let own = serials[v];
-    if own == 0 {
+    let unknown = own == 0;
+    if unknown {
         return true;
     }
     let mut ok = true;

@@ -8,7 +8,7 @@
 //! - `record`: the record's idle mark (a byte), n, m, position, total
 //! - `number`: a place and the work number that is written there
 //! - `start`, `advance` with a budget, `finish`: the calls
-//! - `job` with a budget: the one_call match, then the same as a job in slices of this budget, with a budget of 0 after each slice
+//! - `job` with a budget: the one-call match, then the same as a job in slices of this budget, with a budget of 0 after each slice
 //! - `view`: how many work numbers are printed
 //!
 //! The calls are `start_core`, `advance_core` and `finish`: functions that are lent the record by `&mut` have no callers in covered code.
@@ -135,7 +135,7 @@ fn call_step(
     })
 }
 
-// The one_call match, and the same as a job.
+// The one-call match, and the same as a job.
 fn job_step(
     rt: &impl Print,
     st: State,

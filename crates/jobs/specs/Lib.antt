@@ -3,4 +3,3 @@ pub mod Fits
 pub mod Delivery
 pub mod Outcomes
 pub mod Slices
-pub mod Theorems

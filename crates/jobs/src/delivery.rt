@@ -27,7 +27,8 @@ pub(crate) fn deliver(
     ensures { Delivered table.now recorded.now found.now work.now mapping.old mapping.new result }
 {
     let t = largest(work, plan, recorded, found);
-    if t.weight == 0 {
+    let empty = t.weight == 0;
+    if empty {
         clear(mapping, vertex_count(recorded));
         return 0;
     }

@@ -12,11 +12,12 @@ use Rattle.model.specs.Jobs.{start_item, finish_item, advance_of, advance_count}
 use Rattle.model.specs.Sizes.{SizesNumbers}
 use Rattle.job_items.specs.Items.{start_none, start_passed}
 use Rattle.jobs.specs.Slices.{Sliced, begins, goes, Running, running_lent, running_ends}
-use Rattle.jobs.specs.Theorems.{sliced_running, lent_slice}
+use Rattle.jobs.proofs.Theorems.{sliced_running, lent_slice}
 use Rattle.answer_numbers.specs.declared.job_numbers.JobMemory.{JobMemory}
 use Rattle.answer_numbers.specs.Memory.{record_of}
 use Rattle.call_numbers.specs.Exported.{Advances, Finishes}
-use Rattle.call_numbers.specs.SlicedCalls.{CallsMade, started, advanced, as_job, each_call}
+use Rattle.call_numbers.specs.SlicedCalls.{CallsMade, started, advanced}
+use Rattle.call_numbers.proofs.JobInCalls.{as_job, each_call}
 use Rattle.sizes.specs.Answers.{sizes_told}
 
 -- a list that begins with the n(3m - 2) numbers that the last call left

@@ -3,7 +3,7 @@
 use Rattle.std.specs.Prelude.{ℕ, ◌+◌, ◌*◌, ◌-◌, ◌/◌, ◌%◌, ℤ, negsuc}
 use Rattle.model.specs.Lengths.{certificate_head_length, partner_length, subproblem_length}
 
--- a weight is from -weightLimit to weight_limit, either end included, or is the forbidden number -2,147,483,648. Paper 02, [2]
+-- a weight is from -weight_limit to weight_limit, either end included, or is the forbidden number -2,147,483,648. Paper 02, [2]
 abbrev pub weight_limit : ℕ
 weight_limit = 16000000
 

@@ -1,4 +1,4 @@
--- The match in one call: what it leaves, and what its answer says. Paper 01, "The mapping", "Jobs" (the work numbers of a one_call match) and
+-- The match in one call: what it leaves, and what its answer says. Paper 01, "The mapping", "Jobs" (the work numbers of a one-call match) and
 -- "Why a call is turned down".
 use Rattle.std.specs.Prelude.{◌≡◌, ◌≢◌, List, ◌++◌, ℕ, take, drop, ℤ, pos}
 use Rattle.model.specs.declared.MatchAnswer.{MatchAnswer}

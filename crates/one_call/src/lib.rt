@@ -52,7 +52,8 @@ pub fn solve_and_read(
     fill(table, recorded, found, plan, work, 0, count);
     let t = largest(work, plan, recorded, found);
     let w = t.weight;
-    if w == 0 {
+    let empty = w == 0;
+    if empty {
         clear(mapping, vertex_count(recorded));
         return 0;
     }

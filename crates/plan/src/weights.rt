@@ -73,7 +73,8 @@ pub fn edge_pair(table: &[u8], i: u8, j: u8) -> i32
     ensures { EdgePair table.now i j result }
 {
     let w = edge_weight_at(table, i % Limits::EDGE_LABELS, j % Limits::EDGE_LABELS);
-    if i / Limits::DIRECTED == j / Limits::DIRECTED {
+    let alike = i / Limits::DIRECTED == j / Limits::DIRECTED;
+    if alike {
         return w;
     }
     Limits::FORBIDDEN

@@ -5,8 +5,8 @@ use native.Mathlib.Omega.{arith}
 use Rattle.trees.specs.Directions.{second_plain, second_directed}
 use Rattle.adjacency.proofs.from_second.Goals as goal
 
-pub returns-then-l-lt-DIRECTED : goal.returns-then-l-lt-DIRECTED
-returns-then-l-lt-DIRECTED c = sym (second_plain c.args.l (search rules))
+pub returns-then-undirected : goal.returns-then-undirected
+returns-then-undirected c = sym (second_plain c.args.l (search rules))
 
 pub returns : goal.returns
-returns c = sym (second_directed c.args.l (omega (arith, c.if-l-lt-DIRECTED.false)))
+returns c = sym (second_directed c.args.l (omega (arith, c.if-undirected.false)))

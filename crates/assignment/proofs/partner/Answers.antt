@@ -15,11 +15,11 @@ offset_bounds-g-i c = omega (arith, c.requires.1, c.requires.0, c.if-l-j.false)
 pub bounds-g-i : goal.bounds-g-i
 bounds-g-i c = omega (arith, c.requires.1, c.requires.0, c.if-l-j.false)
 
-pub kept-requires : goal.kept-requires
-kept-requires c = omega (arith, c.requires.0, c.if-l-j.false)
+pub kept-none-requires : goal.kept-none-requires
+kept-none-requires c = omega (arith, c.requires.0, c.if-l-j.false)
 
-pub returns-then-kept-eq0 : goal.returns-then-kept-eq0
-returns-then-kept-eq0 c = partner_zero c.args.l c.args.i c.place-j.result (out_of c.args.c (cell c.args.g.now)) (at c.args.m.now) c.place-j.ensures (sym (kept_is c.args.c c.args.g.now c.args.i c.place-j.result c.kept.ensures refl) ∙ c.if-kept-eq0.true)
+pub returns-then-none : goal.returns-then-none
+returns-then-none c = partner_zero c.args.l c.args.i c.place-j.result (out_of c.args.c (cell c.args.g.now)) (at c.args.m.now) c.place-j.ensures (sym (kept_is c.args.c c.args.g.now c.args.i c.place-j.result c.kept-none.ensures refl) ∙ c.if-none.true)
 
 pub returns : goal.returns
-returns c = partner_pair c.args.l c.args.i c.place-j.result (out_of c.args.c (cell c.args.g.now)) (at c.args.m.now) c.requires.0 c.place-j.ensures c.if-l-j.false (λ q. c.if-kept-eq0.false (kept_is c.args.c c.args.g.now c.args.i c.place-j.result c.kept.ensures refl ∙ q))
+returns c = partner_pair c.args.l c.args.i c.place-j.result (out_of c.args.c (cell c.args.g.now)) (at c.args.m.now) c.requires.0 c.place-j.ensures c.if-l-j.false (λ q. c.if-none.false (kept_is c.args.c c.args.g.now c.args.i c.place-j.result c.kept-none.ensures refl ∙ q))

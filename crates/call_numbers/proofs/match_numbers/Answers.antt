@@ -1,5 +1,5 @@
 -- `match_numbers` gives the numbers of the answer of `match_trees`. Assumes nothing.
-use Rattle.call_numbers.specs.Answers.{exported}
+use Rattle.call_numbers.proofs.Exports.{exported}
 use Rattle.call_numbers.proofs.match_numbers.Goals as goal
 
 pub returns : goal.returns

@@ -4,7 +4,7 @@ use mathlib.Core.Path.{◌≡◌, sym, ◌∙◌, refl}
 use Rattle.model.specs.Calls.{input_item}
 use Rattle.job_items.specs.Items.{early_item, early_passed, advance_early}
 use Rattle.jobs.specs.Outcomes.{advance_refused_as}
-use Rattle.jobs.specs.Theorems.{advance_call}
+use Rattle.jobs.proofs.Theorems.{advance_call}
 use borrow.Author.Rules.{rules}
 use Rattle.jobs.proofs.advance_core.Goals as goal
 

@@ -1,7 +1,7 @@
 -- `start_core` refuses by the first item that applies, or begins. Assumes nothing.
 use mathlib.Core.Path.{◌≡◌, sym, ◌∙◌}
 use Rattle.jobs.specs.Outcomes.{start_refused_as, start_accepted_as}
-use Rattle.jobs.specs.Theorems.{start_call}
+use Rattle.jobs.proofs.Theorems.{start_call}
 use borrow.Author.Rules.{rules}
 use Rattle.jobs.proofs.start_core.Goals as goal
 

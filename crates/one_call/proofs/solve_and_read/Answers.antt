@@ -25,17 +25,17 @@ largest-t-requires c = all_at c.requires.ready (lent_after _ _ _ _ _ _ _ c.requi
 pub vertex_count-requires : goal.vertex_count-requires
 vertex_count-requires c = whole (ready_accepted c.requires.ready).recorded.ends
 
-pub returns-then-w-eq0 : goal.returns-then-w-eq0
-returns-then-w-eq0 c =
-    solved_empty _ _ _ c.requires.ready.passes _ c.requires.lent.enough _ (c.fill.ensures ∙ ap (λ (k : ℕ). fill c.args.table.now c.args.recorded.now c.args.found.now c.args.work.now 0 k) c.subproblem_count-count.ensures.0) _ _ _ _ _ c.largest-t.ensures c.if-w-eq0.true
+pub returns-then-empty : goal.returns-then-empty
+returns-then-empty c =
+    solved_empty _ _ _ c.requires.ready.passes _ c.requires.lent.enough _ (c.fill.ensures ∙ ap (λ (k : ℕ). fill c.args.table.now c.args.recorded.now c.args.found.now c.args.work.now 0 k) c.subproblem_count-count.ensures.0) _ _ _ _ _ c.largest-t.ensures c.if-empty.true
     (c.clear.ensures ∙ ap (λ (k : ℕ). replicate k no_vertex ++ drop k c.args.mapping.now) c.vertex_count.ensures)
 
 pub read_out-requires : goal.read_out-requires
-read_out-requires c = record { ready = c.requires.ready; lent = lent_after _ _ _ _ _ _ _ c.requires.lent c.fill.ensures; u_bound = top_pair _ _ _ _ _ _ _ c.largest-t.ensures c.if-w-eq0.false; recorded_in_bounds = c.requires.recorded_in_bounds }
+read_out-requires c = record { ready = c.requires.ready; lent = lent_after _ _ _ _ _ _ _ c.requires.lent c.fill.ensures; u_bound = top_pair _ _ _ _ _ _ _ c.largest-t.ensures c.if-empty.false; recorded_in_bounds = c.requires.recorded_in_bounds }
 
 pub returns : goal.returns
 returns c =
     let t = c.largest-t.ensures in
-    let z = c.if-w-eq0.false in
+    let z = c.if-empty.false in
     let l = top_pair _ _ _ _ _ _ _ t z in
     solved_read _ _ _ c.requires.ready.passes _ c.requires.lent.enough _ (c.fill.ensures ∙ ap (λ (k : ℕ). fill c.args.table.now c.args.recorded.now c.args.found.now c.args.work.now 0 k) c.subproblem_count-count.ensures.0) _ _ _ _ _ t z l.0 l.1 c.read_out.ensures

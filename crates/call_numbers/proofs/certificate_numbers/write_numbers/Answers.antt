@@ -1,5 +1,5 @@
 -- `write_numbers` gives the numbers of the answer of `write_certificate`. Assumes nothing.
-use Rattle.call_numbers.specs.Answers.{writes}
+use Rattle.call_numbers.proofs.Exports.{writes}
 use Rattle.call_numbers.proofs.certificate_numbers.write_numbers.Goals as goal
 
 pub returns : goal.returns

@@ -1,5 +1,5 @@
 -- `advance_numbers` gives the memory that the core's answer leaves and the numbers of that answer. Assumes nothing.
-use Rattle.call_numbers.specs.Answers.{advances}
+use Rattle.call_numbers.proofs.Exports.{advances}
 use Rattle.call_numbers.proofs.job_numbers.advance_numbers.Goals as goal
 
 pub returns : goal.returns

@@ -1,5 +1,5 @@
 -- `finish_result` gives the numbers of the answer of the record that the memory stands for. Assumes nothing.
-use Rattle.call_numbers.specs.Answers.{finishes}
+use Rattle.call_numbers.proofs.Exports.{finishes}
 use Rattle.call_numbers.proofs.job_numbers.finish_result.Goals as goal
 
 pub returns : goal.returns

@@ -1,5 +1,5 @@
 -- `start_numbers` gives the memory that the core's answer leaves and the number of that answer. Assumes nothing.
-use Rattle.call_numbers.specs.Answers.{starts}
+use Rattle.call_numbers.proofs.Exports.{starts}
 use Rattle.call_numbers.proofs.job_numbers.start_numbers.Goals as goal
 
 pub returns : goal.returns

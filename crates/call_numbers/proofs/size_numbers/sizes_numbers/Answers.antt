@@ -1,5 +1,5 @@
 -- `sizes_numbers` gives the numbers of the answer of `sizes`. Assumes nothing.
-use Rattle.call_numbers.specs.Answers.{sizes_numbers}
+use Rattle.call_numbers.proofs.Exports.{sizes_numbers}
 use Rattle.call_numbers.proofs.size_numbers.sizes_numbers.Goals as goal
 
 pub returns : goal.returns

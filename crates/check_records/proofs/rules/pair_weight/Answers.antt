@@ -7,9 +7,9 @@ use Rattle.check_records.specs.Records.{row_pair}
 use Rattle.check_records.specs.Walk.{rule_cursor}
 use Rattle.check_records.proofs.rules.pair_weight.Goals as goal
 
-pub returns-then-s-ne0 : goal.returns-then-s-ne0
-returns-then-s-ne0 c =
-    let e : Same c.args.s.weight = search rules in rw e (c.requires.walked.pair c.if-s-ne0.true)
+pub returns-then-inside : goal.returns-then-inside
+returns-then-inside c =
+    let e : Same c.args.s.weight = search rules in rw e (c.requires.walked.pair c.if-inside.true)
 
 pub in_order-u-requires : goal.in_order-u-requires
 in_order-u-requires c =

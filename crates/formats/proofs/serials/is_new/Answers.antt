@@ -9,10 +9,10 @@ use Rattle.formats.specs.Serials.{new_in}
 use native.Mathlib.Omega.{arith}
 use Rattle.formats.proofs.serials.is_new.Goals as goal
 
-pub returns-then-own-eq0 : goal.returns-then-own-eq0
+pub returns-then-unknown : goal.returns-then-unknown
 unfolding new_in
-returns-then-own-eq0 c =
-    let e = c.if-own-eq0.true in rw e
+returns-then-unknown c =
+    let e = c.if-unknown.true in rw e
 
 pub loop-x-init : goal.loop-x-init
 unfolding every
@@ -27,5 +27,5 @@ pub returns : goal.returns
 unfolding new_in
 returns c =
     let a = c.args in
-    let e : eqb (get_or a.serials.now a.v 0) 0 ≡ false = ne_eqb _ 0 c.if-own-eq0.false in
+    let e : eqb (get_or a.serials.now a.v 0) 0 ≡ false = ne_eqb _ 0 c.if-unknown.false in
     rw e (every_end (λ y. not (eqb (get_or a.serials.now y 0) (get_or a.serials.now a.v 0))) c.loop-x.x a.v c.loop-x.ok c.loop-x.invariant.1 (omega arith))

@@ -18,7 +18,7 @@ use Rattle.model.specs.Jobs.{start_item, advance_item, finish_item, start_of, st
 use Rattle.model.specs.Certificate.{certificate_length, weight_in, mapping_in, value_in, check_of}
 use Rattle.model.specs.Writing.{write_item, write_refusal, length_of, WriteCall}
 use Rattle.model.specs.Sizes.{sizes_refusal, sizes_count, sizes_work, sizes_length, SizesNumbers, SizesCall}
-use Rattle.jobs.specs.Theorems.{finish_refusal}
+use Rattle.jobs.proofs.Theorems.{finish_refusal}
 use Rattle.answer_numbers.specs.declared.job_numbers.JobMemory.{JobMemory}
 use Rattle.answer_numbers.specs.Memory.{record_of, memory_after, start_memory, advance_memory}
 use Rattle.answer_numbers.specs.ByItem.{where_none, where_item}
