@@ -5,5 +5,6 @@ pub mod Machine
 pub mod Sums
 pub mod Counting
 pub mod Lists
+pub mod Ranges
 pub mod Members
 pub mod Changed

@@ -67,6 +67,15 @@ unfolding every
 every_sum p a zero = let e : a + 0 ≡ a = omega arith in rw e (and_one (every p a))
 every_sum p a (suc b) = let e : a + suc b ≡ suc (a + b) = omega arith in rw (e, every_sum p a b) (sym (and_assoc (every p a) (every (λ k. p (a + k)) b) (p (a + b))))
 
+-- the first of n + 1 numbers, and the others
+pub every_first : (p : ℕ → Bool) (a n : ℕ) → every (λ k. p (a + k)) (suc n) ≡ (p a && every (λ k. p (a + 1 + k)) n)
+unfolding every
+every_first p a n =
+    let e : suc n ≡ 1 + n = omega arith in
+    let z : a + 0 ≡ a = omega arith in
+    ap (every (λ k. p (a + k))) e ∙ (every_sum (λ k. p (a + k)) 1 n ∙ (ap (λ x. p x && every (λ k. p (a + (1 + k))) n) z
+        ∙ ap (λ b. p a && b) (every_ext (λ k. p (a + (1 + k))) (λ k. p (a + 1 + k)) n (λ k l. let g : a + (1 + k) ≡ a + 1 + k = omega arith in ap p g))))
+
 -- ---- the values of f at 0, 1, .. below k
 
 module _ {A : Type 0} where

@@ -4,6 +4,7 @@
 #![tactic(auto)]
 
 pub mod counts;
+pub mod instance;
 pub mod weights;
 
 ghost use Rattle.std.specs.Prelude.{◌+◌, ◌<◌, ◌≤◌, ◌≡◌};
