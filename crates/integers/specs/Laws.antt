@@ -1,14 +1,20 @@
 -- Laws of the model's integers and weights: four bytes and an integer, the forbidden number, ranges, gains, stored values. Assumes nothing.
-use Rattle.std.specs.Prelude.{◌≡◌, refl, Bool, true, false, cond, ◌⊎◌, ◌≢◌, List, ℕ, suc, ◌+◌, ◌-◌, ◌/◌, ◌%◌, ◌≤◌, ◌<◌, ltb, eqb, ℤ, pos, negsuc, ◌+ℤ◌, neg_ℤ, ◌≤ℤ◌, ◌<ℤ◌}
-use Rattle.std.proofs.Common.{sym, ap, ◌∙◌, subst, true≢false, ⊎_elim, inl, inr, length-set, get_or-set_other, lt-ltb, le-ltb, eqb-true, eq-eqb, ne_eqb, SFits, of_z}
+use Rattle.std.specs.Prelude.{◌≡◌, refl, Bool, true, false, cond, ◌⊎◌, ◌≢◌, List, [], ◌∷◌, ℕ, suc, ◌+◌, ◌-◌, ◌/◌, ◌%◌, ◌≤◌, ◌<◌, ltb, eqb, ℤ, pos, negsuc, ◌+ℤ◌, neg_ℤ, ◌≤ℤ◌, ◌<ℤ◌}
+use Rattle.std.proofs.Common.{to_z, to_z-of_z, sym, ap, ◌∙◌, subst, true≢false, ⊎_elim, inl, inr, length-set, get_or-set_other, lt-ltb, le-ltb, eqb-true, eq-eqb, ne_eqb, SFits, of_z}
 use native.Mathlib.Omega.{arith}
-use Rattle.std.proofs.Math.ListN.{length, get_or}
+use Rattle.std.proofs.Math.ListN.{length, get_or, set}
 use Rattle.std.proofs.Math.Seq.{get_or-set_same}
-use Rattle.std.proofs.lemmas.List.{set-get_or}
+use Rattle.std.proofs.lemmas.List.{set-get_or, take-append-drop}
+use mathlib.Core.List.{append-nil}
 use Rattle.std.specs.Int.Signed.{le_z, lt_z}
 use borrow.Author.Rules.{Below-set}
-use Rattle.std.specs.Int.{w32}
-use Rattle.foundations.specs.Tests.{and_split, or_split, same_test}
+use Rattle.std.specs.Int.{w32, to_le_bytes}
+use Rattle.std.proofs.Math.Facts.{to_z_pos}
+use borrow.Rule.Slice.PartMut.{put_mid}
+use Rattle.std.proofs.lemmas.List.Edits.{paste_more}
+use Rattle.std.proofs.lemmas.Slice.{put_mid-paste}
+use Rattle.std.proofs.Math.Seq.{paste}
+use Rattle.foundations.specs.Tests.{less?, and_split, or_split, same_test}
 use Rattle.foundations.specs.Int.{up, dn, int, ints}
 use Rattle.model.specs.Limits.{weight_limit, ceiling, forbidden, forbidden_rank}
 use Rattle.model.specs.Bytes.{word, word_at, signed32, bits32, int32_at, put_word, put_int32}
@@ -48,6 +54,20 @@ bits32_signed32 n h = go (ltb n 2147483648)
     go : (t : Bool) → bits32 (cond t (pos n) (negsuc (4294967295 - n))) ≡ n
     go true = refl
     go false = omega arith
+
+-- they are what a cast gives
+pub signed32_cast : (n : ℕ) → n < 4294967296 → to_z w32 n ≡ signed32 n
+signed32_cast n h = ⊎_elim
+    (λ l. to_z_pos w32 l ∙ sym (signed32_low n l))
+    (λ l. let e : of_z w32 (negsuc (4294967295 - n)) ≡ n = omega arith in
+    let f : SFits w32 (negsuc (4294967295 - n)) = omega ints in
+    ap (to_z w32) (sym e) ∙ (to_z-of_z f ∙ sym (signed32_high n l)))
+    (less? n 2147483648)
+
+pub bits32_cast : (z : ℤ) → bits32 z ≡ of_z w32 z
+unfolding bits32
+bits32_cast (pos n) = refl
+bits32_cast (negsuc n) = omega arith
 
 -- ---- four bytes, low byte first
 
@@ -96,6 +116,24 @@ module _ (l : List ℕ) (k n : ℕ) (h : k + 4 ≤ length l) where
 pub put_length : (l : List ℕ) (k : ℕ) (z : ℤ) → length (put_int32 l k z) ≡ length l
 unfolding put_word
 put_length l k z = simp length-set
+
+-- four bytes copied into a list
+four_bytes : (l : List ℕ) (k b0 b1 b2 b3 : ℕ) → k + 4 ≤ length l → paste l k (b0 ∷ b1 ∷ b2 ∷ b3 ∷ []) 4 ≡ set (set (set (set l k b0) (k + 1) b1) (k + 2) b2) (k + 3) b3
+four_bytes l k b0 b1 b2 b3 h =
+    let s : List ℕ = b0 ∷ b1 ∷ b2 ∷ b3 ∷ [] in
+    let z : k + 0 ≡ k = omega arith in
+    let e0 : paste l k s 0 ≡ l = rw (z, append-nil) (take-append-drop k l) in
+    let e1 : set (paste l k s 0) (k + 0) b0 ≡ paste l k s 1 = paste_more l k s 0 0 (omega arith) (omega arith) in
+    let e2 : set (paste l k s 1) (k + 1) b1 ≡ paste l k s 2 = paste_more l k s 1 0 (omega arith) (omega arith) in
+    let e3 : set (paste l k s 2) (k + 2) b2 ≡ paste l k s 3 = paste_more l k s 2 0 (omega arith) (omega arith) in
+    let e4 : set (paste l k s 3) (k + 3) b3 ≡ paste l k s 4 = paste_more l k s 3 0 (omega arith) (omega arith) in
+    cc
+
+pub put_word_is : (l : List ℕ) (k n j : ℕ) (ys : List ℕ) → k + 4 ≤ length l → n < 4294967296 → j ≡ 4 → ys ≡ to_le_bytes w32 n → put_mid k j l ys ≡ put_word l k n
+unfolding put_word
+put_word_is l k n j ys h f e g =
+    let t : n / 16777216 % 256 ≡ n / 16777216 = omega arith in
+    put_mid-paste k j l ys (to_le_bytes w32 n) 4 g (sym e) refl ∙ (four_bytes l k (n % 256) (n / 256 % 256) (n / 65536 % 256) (n / 16777216 % 256) h ∙ rw t)
 
 -- the other places stay
 pub word_other : (l : List ℕ) (k n j : ℕ) → (j < k) ⊎ (k + 4 ≤ j) → get_or (put_word l k n) j 0 ≡ get_or l j 0

@@ -7,18 +7,11 @@ ghost use Rattle.model.specs.Bytes.{word, word_at, signed32, bits32, int32, int3
 ghost use Rattle.model.specs.Weights.{is_forbidden, in_range, weight_ok};
 ghost use Rattle.integers.specs.Results.{Gain, StoredValue};
 
-// A byte as a number of 32 bits.
-fn wide(x: u8) -> u32
-    ensures { result ≡ x }
-{
-    x as u32
-}
-
 // The number of four bytes, low byte first.
 pub fn unsigned_of(b0: u8, b1: u8, b2: u8, b3: u8) -> u32
     ensures { result ≡ word b0 b1 b2 b3 }
 {
-    wide(b0) + 256 * wide(b1) + 65536 * wide(b2) + 16777216 * wide(b3)
+    u32::from_le_bytes([b0, b1, b2, b3])
 }
 
 // The number of the four bytes from `at` on.
@@ -29,22 +22,11 @@ pub fn word_at(s: &[u8], at: usize) -> u32
     unsigned_of(s[at], s[at + 1], s[at + 2], s[at + 3])
 }
 
-// The integer that 32 bits stand for.
-fn signed_of(n: u32) -> i32
-    ensures { result ≡ signed32 n }
-{
-    if n < 2147483648 {
-        n as i32
-    } else {
-        -1 - ((4294967295 - n) as i32)
-    }
-}
-
 // The integer of four bytes, low byte first.
 pub fn decode(b0: u8, b1: u8, b2: u8, b3: u8) -> i32
     ensures { result ≡ int32 b0 b1 b2 b3 }
 {
-    signed_of(unsigned_of(b0, b1, b2, b3))
+    unsigned_of(b0, b1, b2, b3).cast_signed()
 }
 
 // The integer of the four bytes from `at` on.
@@ -55,26 +37,12 @@ pub fn int32_at(s: &[u8], at: usize) -> i32
     decode(s[at], s[at + 1], s[at + 2], s[at + 3])
 }
 
-// The bits of an integer.
-fn bits_of(w: i32) -> u32
-    ensures { result ≡ bits32 w }
-{
-    if w < 0 {
-        4294967295 - ((-1 - w) as u32)
-    } else {
-        w as u32
-    }
-}
-
 // Writes a number of 32 bits, low byte first.
 pub fn put_word(d: &mut [u8], at: usize, n: u32)
     requires { at + 4 ≤ length d.old }
     ensures { d.new ≡ put_word d.old at n }
 {
-    d[at] = (n % 256) as u8;
-    d[at + 1] = (n / 256 % 256) as u8;
-    d[at + 2] = (n / 65536 % 256) as u8;
-    d[at + 3] = (n / 16777216) as u8;
+    d[at..at + 4].copy_from_slice(&n.to_le_bytes());
 }
 
 // Writes `w` into the four bytes from `at` on.
@@ -82,7 +50,7 @@ pub fn encode(d: &mut [u8], at: usize, w: i32)
     requires { at + 4 ≤ length d.old }
     ensures { d.new ≡ put_int32 d.old at w }
 {
-    put_word(d, at, bits_of(w));
+    put_word(d, at, w.cast_unsigned());
 }
 
 // Whether `w` is the forbidden number.
@@ -139,5 +107,5 @@ pub fn stored_value(weight: i32, total: u64) -> i32
 pub fn lesser(a: usize, b: usize) -> usize
     ensures { result ≡ min a b }
 {
-    if a <= b { a } else { b }
+    a.min(b)
 }

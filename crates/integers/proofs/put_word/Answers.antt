@@ -1,19 +1,7 @@
 -- `put_word` meets its contract. Assumes nothing.
-use borrow.Author.Rules.{rules}
-use native.Mathlib.Omega.{arith}
-use lib.ListN.{length-set}
-use Rattle.model.specs.Bytes.{put_word}
+use Rattle.std.proofs.Common.{◌∙◌, arith}
+use Rattle.integers.specs.Laws.{put_word_is}
 use Rattle.integers.proofs.put_word.Goals as goal
 
-pub bounds-d-at-2 : goal.bounds-d-at-2
-bounds-d-at-2 c = simp length-set (omega arith)
-
-pub bounds-d-at-3 : goal.bounds-d-at-3
-bounds-d-at-3 c = simp length-set (omega arith)
-
-pub bounds-d-at-4 : goal.bounds-d-at-4
-bounds-d-at-4 c = simp length-set (omega arith)
-
 pub returns : goal.returns
-unfolding put_word
-returns c = search rules
+returns c = put_word_is _ _ _ _ _ c.requires (omega arith) (omega arith) (c.copy_from_slice.ensures.after ∙ c.to_le_bytes.ensures)
