@@ -2,9 +2,7 @@
 -- layout" and "The sheet"; paper 02, [3] and [5]. The other definitions take the lengths by name from here; where something stands inside its record is a
 -- number where it is read, and so are the 4 bytes of a bound in the sheet's length. Layouts are trees, devices vertices, lines edges; u, v and s are those of
 -- "Subproblems and their order".
-use Rattle.std.specs.Prelude.{ℕ, ◌+◌, ◌*◌, ◌&&◌, cond, List, [], ◌∷◌, eqb}
-use Rattle.model.specs.declared.RecordLength.{RecordLength}
-use Rattle.model.specs.declared.RecordLength.TheVariants.{Bytes, Unknown}
+use Rattle.std.specs.Prelude.{ℕ, ◌+◌, ◌*◌, ◌&&◌, cond, List, [], ◌∷◌, eqb, Option, Some, None}
 
 -- ---- the bytes of each record, in the order of the marks: 2 are the mark, a weight, a value, a bound and a serial have 4, all else has 1
 
@@ -69,11 +67,11 @@ cases K L children others =
     ∷ []
 
 -- the length by the case of the mark a b, of a list of cases
-abbrev pub case_of : ℕ → ℕ → List Case → RecordLength
-case_of a b [] = Unknown
-case_of a b ((x, y, bytes) ∷ rest) = cond (eqb a x && eqb b y) (Bytes bytes) (case_of a b rest)
+abbrev pub case_of : ℕ → ℕ → List Case → Option ℕ
+case_of a b [] = None
+case_of a b ((x, y, bytes) ∷ rest) = cond (eqb a x && eqb b y) (Some bytes) (case_of a b rest)
 
 -- a and b are any two bytes. K and L are the table's, for its rows alone; `children` counts the children of u and `others` the neighbours of v other than s,
 -- for a subproblem's record alone
-abbrev pub length_by_mark : ℕ → ℕ → ℕ → ℕ → ℕ → ℕ → RecordLength
+abbrev pub length_by_mark : ℕ → ℕ → ℕ → ℕ → ℕ → ℕ → Option ℕ
 length_by_mark a b K L children others = case_of a b (cases K L children others)

@@ -1,4 +1,4 @@
-//! The public constants and answers of the library, and the length of a record. What the bytes, items and orders of the papers mean is in specs/, as definitions.
+//! The public constants and answers of the library. What the bytes, items and orders of the papers mean is in specs/, as definitions.
 #![tactic(auto)]
 
 ghost use Rattle.std.specs.Prelude.{◌≡◌, pos};
@@ -86,13 +86,6 @@ impl JobRecord {
             total: 0,
         }
     }
-}
-
-// How many bytes a record has, its mark among them; or its mark is none of the ten of specs/Lengths.antt. No call gives this answer.
-#[derive(Clone, Copy)]
-pub enum RecordLength {
-    Bytes(usize),
-    Unknown,
 }
 
 // The answer of a start.
