@@ -15,45 +15,44 @@ pub struct Order {
     pub len: usize,
 }
 
-// One vertex more behind the `len` that `at` holds: how many it holds then. Where it is full, nothing changes.
-fn push(at: &mut VertexTable, len: usize, x: u8) -> usize
-    ensures { (l : List ℕ) → Holds vertex_limit no_vertex l at.old len → Holds vertex_limit no_vertex (l ++ (x ∷ [])) at.new result }
-{
-    if Limits::ROWS <= len {
-        return len;
+impl Order {
+    // One vertex more. Where it is full, nothing changes.
+    fn push(&mut self, x: u8)
+        ensures { (l : List ℕ) → Holds vertex_limit no_vertex l self.old.at self.old.len → Holds vertex_limit no_vertex (l ++ (x ∷ [])) self.new.at self.new.len }
+    {
+        if self.len < Limits::ROWS {
+            self.at[self.len] = x;
+            self.len += 1;
+        }
     }
-    at[len] = x;
-    len + 1
 }
 
-// What lies below v, away from `from`, and then v, to a depth of k, behind the `len` vertices that `at` holds: how many it holds then.
-fn visit(t: &PlaceTable, v: u8, from: u8, k: usize, at: &mut VertexTable, len: usize) -> usize
+// What lies below v, away from `from`, and then v, to a depth of k, behind the vertices that the order holds.
+fn visit(t: &PlaceTable, v: u8, from: u8, k: usize, order: &mut Order)
     requires { v < vertex_limit }
-    ensures { (l : List ℕ) → Holds vertex_limit no_vertex l at.old len → Holds vertex_limit no_vertex (l ++ post t.now k v from) at.new result }
+    ensures { (l : List ℕ) → Holds vertex_limit no_vertex l order.old.at order.old.len → Holds vertex_limit no_vertex (l ++ post t.now k v from) order.new.at order.new.len }
 {
     if k == 0 {
-        return len;
+        return;
     }
-    let mut n = len;
-    let mut i: usize = 0;
-    while i < Limits::PLACES {
-        let w = t[v as usize][i];
+    for w in t[v as usize] {
         if (w < Limits::VERTICES) & (w != from) {
-            let q = visit(t, w, v, k - 1, at, n);
-            n = q;
+            visit(t, w, v, k - 1, order);
         }
-        i += 1;
     }
-    push(at, n, v)
+    order.push(v);
 }
 
 // The vertices in postorder from vertex 0, children ascending.
 pub fn postorder(t: &PlaceTable) -> Order
     ensures { OrderOf t.now result.at result.len }
 {
-    let mut at = [Limits::NONE; Limits::ROWS];
-    let len = visit(t, 0, 0, Limits::ROWS, &mut at, 0);
-    Order { at: at, len: len }
+    let mut order = Order {
+        at: [Limits::NONE; Limits::ROWS],
+        len: 0,
+    };
+    visit(t, 0, 0, Limits::ROWS, &mut order);
+    order
 }
 
 // Each vertex's place in an order of different vertices.
@@ -61,14 +60,11 @@ pub fn places(o: Order) -> VertexTable
     requires { Different o.at o.len }
     ensures { Placed o.at o.len result }
 {
-    let at = o.at;
-    let len = o.len;
     let mut p = [Limits::NONE; Limits::ROWS];
-    let mut i: usize = 0;
-    while i < len {
-        let x = at[i];
+    let len = o.len;
+    for i in 0..len {
+        let x = o.at[i];
         p[x as usize] = i as u8;
-        i += 1;
     }
     p
 }

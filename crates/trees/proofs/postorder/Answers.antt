@@ -6,4 +6,4 @@ use Rattle.trees.specs.Visits.{order_of}
 use Rattle.trees.proofs.postorder.Goals as goal
 
 pub returns : goal.returns
-returns c = order_of _ _ _ (c.visit-len.ensures [] (holds_none vertex_limit no_vertex))
+returns c = order_of _ _ _ (c.visit.ensures [] (holds_none vertex_limit no_vertex))
