@@ -28,11 +28,8 @@ fn serials(s: &[u8], n: usize) -> [u32; Limits::ROWS]
     ensures { SerialsTo s.now n result }
 {
     let mut t = [0u32; Limits::ROWS];
-    let mut v: usize = 0;
-    while v < n {
-        let x = serial_of(s, n, v);
-        t[v] = x;
-        v += 1;
+    for v in 0..n {
+        t[v] = serial_of(s, n, v);
     }
     t
 }
@@ -44,16 +41,7 @@ fn is_new(serials: &[u32; Limits::ROWS], v: usize) -> bool
 {
     let own = serials[v];
     let unknown = own == 0;
-    if unknown {
-        return true;
-    }
-    let mut ok = true;
-    let mut x: usize = 0;
-    while x < v {
-        ok = ok & (serials[x] != own);
-        x += 1;
-    }
-    ok
+    unknown || serials[..v].iter().all(|x| *x != own)
 }
 
 // No known serial stands twice in a tree with serials.
@@ -62,14 +50,7 @@ fn all_new(s: &[u8], n: usize) -> bool
     ensures { result ≡ serials_differ s.now n }
 {
     let known = serials(s, n);
-    let mut ok = true;
-    let mut v: usize = 0;
-    while v < n {
-        let new = is_new(&known, v);
-        ok = ok & new;
-        v += 1;
-    }
-    ok
+    (0..n).all(|v| is_new(&known, v))
 }
 
 // No known serial stands twice.
@@ -77,8 +58,5 @@ pub(crate) fn do_serials_differ(s: &[u8], n: usize) -> bool
     requires { Ends s.now n }
     ensures { result ≡ serials_differ s.now n }
 {
-    if with_serials(s) {
-        return all_new(s, n);
-    }
-    true
+    !with_serials(s) || all_new(s, n)
 }

@@ -112,14 +112,7 @@ fn rows_marked(table: &[u8], block: Block, m: &[u8; 2]) -> bool
     requires { BlockIn table.now block }
     ensures { result ≡ every (λ i. is_mark table.now (row_start block i) m.now) block.rows }
 {
-    let mut ok = true;
-    let mut i: u8 = 0;
-    while i < block.rows {
-        let marked = row_marked(table, block, i, m);
-        ok = ok & marked;
-        i += 1;
-    }
-    ok
+    (0..block.rows).all(|i| row_marked(table, block, i, m))
 }
 
 // Item 1, the marks of head and rows.
@@ -146,14 +139,7 @@ fn row_ok(table: &[u8], row: usize, k: u8) -> bool
     requires { column row k ≤ length table.now }
     ensures { result ≡ row_ok table.now row k }
 {
-    let mut ok = true;
-    let mut j: u8 = 0;
-    while j < k {
-        let fine = entry_ok(table, row, j);
-        ok = ok & fine;
-        j += 1;
-    }
-    ok
+    (0..k).all(|j| entry_ok(table, row, j))
 }
 
 // So may every weight of the block.
@@ -161,14 +147,7 @@ fn rows_ok(table: &[u8], block: Block) -> bool
     requires { BlockIn table.now block }
     ensures { result ≡ every (λ i. row_ok table.now (row_start block i) block.rows) block.rows }
 {
-    let mut ok = true;
-    let mut i: u8 = 0;
-    while i < block.rows {
-        let fine = row_ok(table, row_at(block, i), block.rows);
-        ok = ok & fine;
-        i += 1;
-    }
-    ok
+    (0..block.rows).all(|i| row_ok(table, row_at(block, i), block.rows))
 }
 
 // Item 2.

@@ -13,6 +13,7 @@ use crate::places::{edge_start, tree_size, vertex_start, with_serials};
 use crate::serials::do_serials_differ;
 use lengths::tree_head_length;
 use model::{Limits, VertexTable};
+use std::array;
 
 // ---- the bytes of an accepted tree
 
@@ -20,7 +21,9 @@ use model::{Limits, VertexTable};
 pub fn end_a(s: &[u8], n: usize, j: usize) -> u8
     requires ends { Ends s.now n }
     requires j_bound { j + 1 < n }
-    ensures { result ≡ end_a s.now n j }
+    ensures value { result ≡ end_a s.now n j }
+    ensures low { result < n }
+    ensures few { result < vertex_limit }
 {
     s[edge_start(s, n, j) + 2]
 }
@@ -28,7 +31,9 @@ pub fn end_a(s: &[u8], n: usize, j: usize) -> u8
 pub fn end_b(s: &[u8], n: usize, j: usize) -> u8
     requires ends { Ends s.now n }
     requires j_bound { j + 1 < n }
-    ensures { result ≡ end_b s.now n j }
+    ensures value { result ≡ end_b s.now n j }
+    ensures low { result < n }
+    ensures few { result < vertex_limit }
 {
     s[edge_start(s, n, j) + 3]
 }
@@ -91,14 +96,7 @@ fn vertices_marked(s: &[u8], n: usize) -> bool
     requires { Whole s.now n }
     ensures { result ≡ every (λ v. is_mark s.now (vertex_start s.now v) (vertex_mark_of s.now)) n }
 {
-    let mut ok = true;
-    let mut v = 0;
-    while v < n {
-        let k = is_vertex(s, n, v);
-        ok = ok & k;
-        v += 1;
-    }
-    ok
+    (0..n).all(|v| is_vertex(s, n, v))
 }
 
 fn is_edge(s: &[u8], n: usize, j: usize) -> bool
@@ -113,14 +111,7 @@ fn edges_marked(s: &[u8], n: usize) -> bool
     requires { Whole s.now n }
     ensures { result ≡ every (λ j. is_mark s.now (edge_start s.now n j) edge_mark) (n - 1) }
 {
-    let mut ok = true;
-    let mut j = 0;
-    while j + 1 < n {
-        let k = is_edge(s, n, j);
-        ok = ok & k;
-        j += 1;
-    }
-    ok
+    (0..n - 1).all(|j| is_edge(s, n, j))
 }
 
 fn is_marked(s: &[u8], n: usize) -> bool
@@ -139,28 +130,14 @@ fn vertex_labels_known(s: &[u8], n: usize, labels: u8) -> bool
     requires { Whole s.now n }
     ensures { result ≡ every (λ v. ltb (vertex_label s.now v) labels) n }
 {
-    let mut ok = true;
-    let mut v = 0;
-    while v < n {
-        let at = vertex_start(s, n, v);
-        ok = ok & (s[at + 2] < labels);
-        v += 1;
-    }
-    ok
+    (0..n).all(|v| s[vertex_start(s, n, v) + 2] < labels)
 }
 
 fn edge_labels_known(s: &[u8], n: usize, labels: u8) -> bool
     requires { Whole s.now n }
     ensures { result ≡ every (λ j. ltb (edge_label_at s.now n j) labels) (n - 1) }
 {
-    let mut ok = true;
-    let mut j = 0;
-    while j + 1 < n {
-        let at = edge_start(s, n, j);
-        ok = ok & (s[at + 4] < labels);
-        j += 1;
-    }
-    ok
+    (0..n - 1).all(|j| s[edge_start(s, n, j) + 4] < labels)
 }
 
 fn are_labels_known(s: &[u8], n: usize, k: u8, l: u8) -> bool
@@ -187,96 +164,56 @@ fn are_ends_low(s: &[u8], n: usize) -> bool
     requires { Whole s.now n }
     ensures { result ≡ ends_low s.now n }
 {
-    let mut ok = true;
-    let mut j = 0;
-    while j + 1 < n {
-        let k = ends_low_at(s, n, j);
-        ok = ok & k;
-        j += 1;
-    }
-    ok
+    (0..n - 1).all(|j| ends_low_at(s, n, j))
 }
 
 // ---- item 6: no edge closes a cycle
-
-fn renamed(y: u8, from: u8, to: u8) -> u8
-    ensures { result ≡ cond (eqb y from) to y }
-{
-    if y == from { to } else { y }
-}
 
 // The components with `to` in the place of `from`.
 fn merged(l: VertexTable, from: u8, to: u8) -> VertexTable
     ensures { result ≡ tab (λ x. cond (eqb (get_or l x 0) from) to (get_or l x 0)) vertex_limit }
 {
-    let mut r = [0u8; Limits::ROWS];
-    let mut x: usize = 0;
-    while x < Limits::ROWS {
-        let y = renamed(l[x], from, to);
-        r[x] = y;
-        x += 1;
-    }
-    r
+    l.map(|y| if y == from { to } else { y })
 }
 
 // Each vertex a component of its own.
 fn own_components() -> VertexTable
     ensures { result ≡ tab (λ x. x) vertex_limit }
 {
-    let mut r = [0u8; Limits::ROWS];
-    let mut x: usize = 0;
-    while x < Limits::ROWS {
-        r[x] = x as u8;
-        x += 1;
-    }
-    r
+    array::from_fn(|x| x as u8)
 }
 
 fn is_acyclic(s: &[u8], n: usize) -> bool
     requires { Ends s.now n }
     ensures { result ≡ acyclic s.now n }
 {
-    let mut ok = true;
     let mut l = own_components();
-    let mut j = 0;
-    while j + 1 < n {
-        let a = end_a(s, n, j) as usize;
-        let b = end_b(s, n, j) as usize;
-        let x = l[a];
-        let y = l[b];
-        ok = ok & (x != y);
-        let m = merged(l, y, x);
-        l = m;
-        j += 1;
+    let edges = n - 1;
+    for j in 0..edges {
+        let x = l[end_a(s, n, j) as usize];
+        let y = l[end_b(s, n, j) as usize];
+        if x == y {
+            return false;
+        }
+        l = merged(l, y, x);
     }
-    ok
+    true
 }
 
 // ---- item 7: at most eight edges at a vertex
 
-// An edge counts once at each of its ends, and once in all where they are the same: 1 for its second end, or 0.
-fn second(a: u8, b: u8) -> u8
-    ensures { result ≡ cond (eqb a b) 0 1 }
-{
-    if a == b { 0 } else { 1 }
-}
-
-// How many edges end at each vertex.
+// How many edges end at each vertex: an edge counts once at each of its ends, and once in all where they are the same.
 pub fn degrees(s: &[u8], n: usize) -> VertexTable
     requires { Ends s.now n }
     ensures { result ≡ tab (λ v. degree s.now n v (n - 1)) vertex_limit }
 {
     let mut d = [0u8; Limits::ROWS];
-    let mut j: usize = 0;
-    while j + 1 < n {
+    let edges = n - 1;
+    for j in 0..edges {
         let a = end_a(s, n, j);
         let b = end_b(s, n, j);
-        let x = d[a as usize];
-        d[a as usize] = x + 1;
-        let more = second(a, b);
-        let y = d[b as usize];
-        d[b as usize] = y + more;
-        j += 1;
+        d[a as usize] += 1;
+        d[b as usize] += u8::from(a != b);
     }
     d
 }
@@ -286,14 +223,7 @@ fn are_edges_few(s: &[u8], n: usize) -> bool
     ensures { result ≡ few_edges s.now n }
 {
     let d = degrees(s, n);
-    let mut ok = true;
-    let mut v: usize = 0;
-    while v < n {
-        let x = d[v];
-        ok = ok & (x <= Limits::DEGREE);
-        v += 1;
-    }
-    ok
+    d[..n].iter().all(|x| *x <= Limits::DEGREE)
 }
 
 // ---- the first item that applies

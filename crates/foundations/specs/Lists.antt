@@ -74,7 +74,7 @@ every_first p a n =
     let e : suc n ≡ 1 + n = omega arith in
     let z : a + 0 ≡ a = omega arith in
     ap (every (λ k. p (a + k))) e ∙ (every_sum (λ k. p (a + k)) 1 n ∙ (ap (λ x. p x && every (λ k. p (a + (1 + k))) n) z
-        ∙ ap (λ b. p a && b) (every_ext (λ k. p (a + (1 + k))) (λ k. p (a + 1 + k)) n (λ k l. let g : a + (1 + k) ≡ a + 1 + k = omega arith in ap p g))))
+    ∙ ap (λ b. p a && b) (every_ext (λ k. p (a + (1 + k))) (λ k. p (a + 1 + k)) n (λ k l. let g : a + (1 + k) ≡ a + 1 + k = omega arith in ap p g))))
 
 -- ---- the values of f at 0, 1, .. below k
 

@@ -8,5 +8,6 @@ use Rattle.formats.proofs.serials.do_serials_differ.Goals as goal
 pub with_serials-requires : goal.with_serials-requires
 with_serials-requires c = omega (arith, long_some (whole c.requires))
 
-pub returns : goal.returns
-returns c = sym (none_differ _ _ (sym c.with_serials.ensures ∙ c.if-with_serials.false))
+pub returns-then-not-with_serials : goal.returns-then-not-with_serials
+returns-then-not-with_serials c =
+    let e = c.if-not-with_serials.true in rw e (sym (none_differ _ _ (sym c.with_serials.ensures ∙ e)))

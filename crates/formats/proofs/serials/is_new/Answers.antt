@@ -1,31 +1,16 @@
--- `is_new` meets its contract: the test is gathered over the vertices before v. Assumes nothing.
-use mathlib.Core.Path.{◌≡◌, refl}
-use mathlib.Core.Bool.{false, not}
-use lib.Dec.{eqb}
-use lib.ListN.{get_or}
-use borrow.Author.Tests.{ne_eqb}
-use Rattle.foundations.specs.Lists.{every, every_step, every_end}
+-- `is_new` meets its contract. Assumes nothing.
+use Rattle.std.proofs.Common.{◌≡◌, false, ne_eqb, arith, rules, eqb, not, get_or}
+use Rattle.foundations.specs.Ranges.{every_from_front}
 use Rattle.formats.specs.Serials.{new_in}
-use native.Mathlib.Omega.{arith}
 use Rattle.formats.proofs.serials.is_new.Goals as goal
 
 pub returns-then-unknown : goal.returns-then-unknown
 unfolding new_in
-returns-then-unknown c =
-    let e = c.if-unknown.true in rw e
+returns-then-unknown c = let e = c.if-unknown.true in rw e
 
-pub loop-x-init : goal.loop-x-init
-unfolding every
-loop-x-init c = (omega arith, refl)
-
-pub loop-x-preserved : goal.loop-x-preserved
-loop-x-preserved c =
-    let a = c.args in
-    (omega arith, every_step (λ y. not (eqb (get_or a.serials.now y 0) (get_or a.serials.now a.v 0))) c.loop-x.x c.loop-x.ok _ c.loop-x.invariant.1 refl)
-
-pub returns : goal.returns
+pub returns-else-unknown : goal.returns-else-unknown
 unfolding new_in
-returns c =
-    let a = c.args in
-    let e : eqb (get_or a.serials.now a.v 0) 0 ≡ false = ne_eqb _ 0 c.if-unknown.false in
-    rw e (every_end (λ y. not (eqb (get_or a.serials.now y 0) (get_or a.serials.now a.v 0))) c.loop-x.x a.v c.loop-x.ok c.loop-x.invariant.1 (omega arith))
+returns-else-unknown c =
+    let t = c.args.serials.now in
+    let e : eqb (get_or t c.args.v 0) 0 ≡ false = ne_eqb _ 0 c.if-unknown.false in
+    rw e (every_from_front (λ x. not (eqb x (get_or t c.args.v 0))) _ _ _ c.all.ensures.ran c.args.v t c.iter.ensures.rest (omega arith) (λ x b q k. search rules))

@@ -7,12 +7,12 @@ use Rattle.formats.proofs.serials.serials.Goals as goal
 pub loop-v-init : goal.loop-v-init
 loop-v-init c =
     let few = c.requires.few in
-    (omega arith, omega (arith, few), serials_none _ _ refl)
+    (omega (arith, few), serials_none _ _ refl)
 
 pub loop-v-preserved : goal.loop-v-preserved
-loop-v-preserved c = (omega arith, c.loop-v.invariant.1, serials_more (omega arith) c.loop-v.invariant.2 c.serial_of-x.ensures)
+loop-v-preserved c = (c.loop-v.invariant.0, serials_more (omega arith) c.loop-v.invariant.1 c.serial_of.ensures)
 
 pub returns : goal.returns
 returns c =
     let e : c.loop-v.v ≡ c.args.n = omega arith in
-    rw e at c.loop-v.invariant.2
+    rw e at c.loop-v.invariant.1

@@ -1,11 +1,8 @@
 -- `serials` meets its contract. Assumes nothing.
-use Prim.Native.Nat.{◌-◌, ◌≤◌}
+use Prim.Native.Nat.{◌≤◌}
 use Rattle.model.specs.Limits.{vertex_limit}
 use Rattle.formats.specs.Serials.{SerialsTo}
 use Rattle.formats.proofs.serials.serials.Given as goal
 
 abbrev pub invariant-loop-v : goal.invariant-loop-v
-invariant-loop-v l = (l.v ≤ l.n) × (l.n ≤ vertex_limit) × SerialsTo l.s l.v l.t
-
-abbrev pub decreases-loop-v : goal.decreases-loop-v
-decreases-loop-v l = l.n - l.v
+invariant-loop-v l = (l.n ≤ vertex_limit) × SerialsTo l.s l.v l.t

@@ -8,63 +8,37 @@ use Rattle.model.specs.Limits.{vertex_limit}
 use Rattle.model.specs.Tree.{degree}
 use Rattle.formats.specs.TreeItems.{degree_more, degree_low, degree_after, zero_or_one}
 use native.Mathlib.Omega.{arith}
+use Rattle.std.proofs.Common.{Bool, true, false, cond, not}
+use Rattle.std.specs.Int.{from_bool}
 use Rattle.formats.proofs.tree.degrees.Goals as goal
+
+bool_not : (b : Bool) → from_bool (not b) ≡ cond b 0 1
+bool_not true = refl
+bool_not false = refl
 
 pub loop-j-init : goal.loop-j-init
 unfolding tab degree
-loop-j-init c = (omega arith, refl)
-
-pub bounds-d-a : goal.bounds-d-a
-bounds-d-a c =
-    let low-a : c.end_a-a.result < vertex_limit = let e = c.requires in
-    omega (arith, e.low c.loop-j.j (omega arith), e.few, c.end_a-a.ensures) in
-    low-a
+loop-j-init c = refl
 
 pub overflow_add-d : goal.overflow_add-d
 overflow_add-d c =
-    let low-a : c.end_a-a.result < vertex_limit = let e = c.requires in
-    omega (arith, e.low c.loop-j.j (omega arith), e.few, c.end_a-a.ensures) in
     let few : c.loop-j.j < vertex_limit = let e = c.requires in omega (arith, e.few) in
-    let first : get_or c.loop-j.d c.end_a-a.result 0 ≤ c.loop-j.j = degree_low c.args.s.now c.args.n c.loop-j.j c.end_a-a.result c.loop-j.d (low-a) c.loop-j.invariant.1 in
+    let first : get_or c.loop-j.d c.end_a-a.result 0 ≤ c.loop-j.j = degree_low c.args.s.now c.args.n c.loop-j.j c.end_a-a.result c.loop-j.d c.end_a-a.ensures.few c.loop-j.invariant in
     omega (arith, first, few)
-
-pub bounds-d-a-in-loop-j : goal.bounds-d-a-in-loop-j
-bounds-d-a-in-loop-j c =
-    let low-a : c.end_a-a.result < vertex_limit = let e = c.requires in
-    omega (arith, e.low c.loop-j.j (omega arith), e.few, c.end_a-a.ensures) in
-    omega (arith, low-a)
-
-pub bounds-d-b : goal.bounds-d-b
-bounds-d-b c =
-    let low-b : c.end_b-b.result < vertex_limit = let e = c.requires in
-    omega (arith, e.low c.loop-j.j (omega arith), e.few, c.end_b-b.ensures) in
-    omega (arith, low-b)
 
 pub overflow_add-d-in-loop-j : goal.overflow_add-d-in-loop-j
 overflow_add-d-in-loop-j c =
     let few : c.loop-j.j < vertex_limit = let e = c.requires in omega (arith, e.few) in
-    let low-b : c.end_b-b.result < vertex_limit = let e = c.requires in
-    omega (arith, e.low c.loop-j.j (omega arith), e.few, c.end_b-b.ensures) in
-    let low-a : c.end_a-a.result < vertex_limit = let e = c.requires in
-    omega (arith, e.low c.loop-j.j (omega arith), e.few, c.end_a-a.ensures) in
+    let e : c.from.result ≡ cond (eqb c.end_a-a.result c.end_b-b.result) 0 1 = c.from.ensures ∙ bool_not (eqb c.end_a-a.result c.end_b-b.result) in
     let m = zero_or_one (eqb c.end_a-a.result c.end_b-b.result) in
-    omega (arith, degree_after c.args.s.now c.args.n c.loop-j.j c.end_a-a.result c.end_b-b.result (get_or c.loop-j.d c.end_a-a.result 0 + 1) c.loop-j.d (low-a) (low-b) c.loop-j.invariant.1 refl, few, c.second-more.ensures)
-
-pub bounds-d-b-in-loop-j : goal.bounds-d-b-in-loop-j
-bounds-d-b-in-loop-j c =
-    let low-b : c.end_b-b.result < vertex_limit = let e = c.requires in
-    omega (arith, e.low c.loop-j.j (omega arith), e.few, c.end_b-b.ensures) in
-    omega (arith, low-b)
+    omega (arith, degree_after c.args.s.now c.args.n c.loop-j.j c.end_a-a.result c.end_b-b.result (get_or c.loop-j.d c.end_a-a.result 0 + 1) c.loop-j.d c.end_a-a.ensures.few c.end_b-b.ensures.few c.loop-j.invariant refl, few, e)
 
 pub loop-j-preserved : goal.loop-j-preserved
 loop-j-preserved c =
-    let low-b : c.end_b-b.result < vertex_limit = let e = c.requires in
-    omega (arith, e.low c.loop-j.j (omega arith), e.few, c.end_b-b.ensures) in
-    let low-a : c.end_a-a.result < vertex_limit = let e = c.requires in
-    omega (arith, e.low c.loop-j.j (omega arith), e.few, c.end_a-a.ensures) in
-    (omega arith, degree_more c.args.s.now c.args.n c.loop-j.j c.end_a-a.result c.end_b-b.result c.second-more.result _ _ c.loop-j.d (low-a) (low-b) c.end_a-a.ensures c.end_b-b.ensures c.second-more.ensures c.loop-j.invariant.1 refl refl)
+    let e : c.from.result ≡ cond (eqb c.end_a-a.result c.end_b-b.result) 0 1 = c.from.ensures ∙ bool_not (eqb c.end_a-a.result c.end_b-b.result) in
+    degree_more c.args.s.now c.args.n c.loop-j.j c.end_a-a.result c.end_b-b.result c.from.result _ _ c.loop-j.d c.end_a-a.ensures.few c.end_b-b.ensures.few c.end_a-a.ensures.value c.end_b-b.ensures.value e c.loop-j.invariant refl refl
 
 pub returns : goal.returns
 returns c =
     let e : c.loop-j.j ≡ c.args.n - 1 = omega arith in
-    c.loop-j.invariant.1 ∙ ap (λ (k : ℕ). tab (λ v. degree c.args.s.now c.args.n v k) vertex_limit) e
+    c.loop-j.invariant ∙ ap (λ (k : ℕ). tab (λ v. degree c.args.s.now c.args.n v k) vertex_limit) e

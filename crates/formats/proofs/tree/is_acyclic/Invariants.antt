@@ -2,15 +2,11 @@
 use Rattle.model.specs.Limits.{vertex_limit}
 use Rattle.model.specs.Edges.{component}
 use Rattle.model.specs.Tree.{closes}
-use mathlib.Core.Bool.{not}
+use mathlib.Core.Bool.{not, true}
 use Rattle.foundations.specs.Lists.{every, tab}
 use Rattle.model.specs.Tree.{end_a, end_b}
 use mathlib.Core.Path.{◌≡◌}
-use Prim.Native.Nat.{◌-◌, ◌≤◌}
 use Rattle.formats.proofs.tree.is_acyclic.Given as goal
 
 abbrev pub invariant-loop-j : goal.invariant-loop-j
-invariant-loop-j l = (l.j ≤ l.n - 1) × (l.ok ≡ every (λ i. not (closes l.s l.n i)) l.j) × (l.l ≡ tab (component (end_a l.s l.n) (end_b l.s l.n) l.j) vertex_limit)
-
-abbrev pub decreases-loop-j : goal.decreases-loop-j
-decreases-loop-j l = l.n - l.j
+invariant-loop-j l = (every (λ i. not (closes l.s l.n i)) l.j ≡ true) × (l.l ≡ tab (component (end_a l.s l.n) (end_b l.s l.n) l.j) vertex_limit)
