@@ -14,13 +14,6 @@ ghost use Rattle.adjacency.specs.NeighbourSteps.{Once, edge_in};
 use formats::tree::{edge_label_at, end_a, end_b, vertex_count};
 use model::{Limits, PlaceTable, Row};
 
-// The lesser of what a place held and what is carried to it stays.
-fn stays(x: u8, c: u8) -> u8
-    ensures { result ≡ min x c }
-{
-    if x <= c { x } else { c }
-}
-
 // The greater is carried on, and `NONE` where the two are the same.
 fn carry(x: u8, c: u8) -> u8
     ensures { result ≡ carried x c }
@@ -28,7 +21,7 @@ fn carry(x: u8, c: u8) -> u8
     if x == c {
         return Limits::NONE;
     }
-    if x <= c { c } else { x }
+    x.max(c)
 }
 
 // An ascending row with w in its place, unless it has w; what is carried past the last place falls out. Where nothing is carried, the rest stays.
@@ -37,17 +30,13 @@ fn put_in(row: Row, w: u8) -> Row
 {
     let mut r = row;
     let mut c = w;
-    let mut i: usize = 0;
-    while i < Limits::PLACES {
+    for i in 0..Limits::PLACES {
         if c == Limits::NONE {
             return r;
         }
         let x = r[i];
-        let low = stays(x, c);
-        let high = carry(x, c);
-        r[i] = low;
-        c = high;
-        i += 1;
+        r[i] = x.min(c);
+        c = carry(x, c);
     }
     r
 }
@@ -59,15 +48,14 @@ pub fn neighbour_table(s: &[u8]) -> PlaceTable
 {
     let n = vertex_count(s);
     let mut t = [[Limits::NONE; Limits::PLACES]; Limits::ROWS];
-    let mut j: usize = 0;
-    while j + 1 < n {
+    let edges = n - 1;
+    for j in 0..edges {
         let a = end_a(s, n, j);
         let b = end_b(s, n, j);
         let p = put_in(t[a as usize], b);
         t[a as usize] = p;
         let q = put_in(t[b as usize], a);
         t[b as usize] = q;
-        j += 1;
     }
     t
 }
@@ -78,13 +66,8 @@ fn edge_in(edges: Row, names: Row, w: u8, c: u8) -> Row
     ensures { result ≡ tab (edge_in w c names edges) degree_limit }
 {
     let mut r = edges;
-    let mut i: usize = 0;
-    while i < Limits::PLACES {
-        if names[i] == w {
-            r[i] = c;
-            return r;
-        }
-        i += 1;
+    if let Some(i) = names.iter().position(|x| *x == w) {
+        r[i] = c;
     }
     r
 }
@@ -109,8 +92,8 @@ pub fn edge_table(t: &mut PlaceTable, s: &[u8], neighbours: &PlaceTable)
     ensures { t.new ≡ seen_table s.now }
 {
     let n = vertex_count(s);
-    let mut j: usize = 0;
-    while j + 1 < n {
+    let edges = n - 1;
+    for j in 0..edges {
         let a = end_a(s, n, j);
         let b = end_b(s, n, j);
         let l = edge_label_at(s, n, j);
@@ -119,6 +102,5 @@ pub fn edge_table(t: &mut PlaceTable, s: &[u8], neighbours: &PlaceTable)
         t[b as usize] = q;
         let p = edge_in(t[a as usize], neighbours[a as usize], b, l);
         t[a as usize] = p;
-        j += 1;
     }
 }

@@ -8,7 +8,8 @@ use Rattle.std.specs.Slice.Iter.{iter_rest}
 use Rattle.std.proofs.lemmas.List.{same_lists, get_or-take, length-take-le}
 use denote.Ref.{Bor}
 use Rattle.std.specs.Iterator.{YieldsThen}
-use Rattle.std.specs.Option.{MatchOption}
+use Rattle.std.specs.Option.{MatchOption, unwrap_or}
+use Rattle.std.proofs.lemmas.List.FromFn.{length-range_with_len, get_or-range_with_len}
 use Rattle.std.specs.Fn.{Called}
 use Rattle.std.specs.declared.ops.Range.{Range}
 use Rattle.std.proofs.iter.Yields.{nat_range_steps, fronts}
@@ -57,18 +58,22 @@ every_from_front p u f r d n xs e l k =
 
 -- ---- arrays made by a closure
 
-maps_at : {F A : Type 0} {g : Mut F (ℕ × Unit {0}) A} {f : F} (xs : List ℕ) (ys : List A) (h : ℕ → A) → ((x : ℕ) (y : A) (q : F) → Called g f (x, tt) y q → (q ≡ f) × (y ≡ h x))
-    → (n i k : ℕ) (d : A) → MapsFrom g f xs ys i n → i ≤ k → k < i + n → get_or ys k d ≡ h (get_or xs k 0)
-maps_at xs ys h c zero i k d m l u = absurd (omega arith)
-maps_at {g = g} {f} xs ys h c (suc n) i k d m l u = ⊎_elim
-    (λ e. rw e (m.4.1 d ∙ ((c m.1 m.2 m.0 m.5).1 ∙ ap h (sym (m.3.1 0)))))
-    (λ e. maps_at xs ys h c n (i + 1) k d (subst (λ q. MapsFrom g q xs ys (i + 1) n) (c m.1 m.2 m.0 m.5).0 m.6) (omega arith) (omega arith))
+-- what a relation of each call's number and result says of the two arrays
+maps_at : {F A : Type 0} {g : Mut F (ℕ × Unit {0}) A} {f : F} (xs : List ℕ) (ys : List A) (R : ℕ → A → Type 0) → ((x : ℕ) (y : A) (q : F) → Called g f (x, tt) y q → (q ≡ f) × R x y)
+    → (n i k : ℕ) (d : A) → MapsFrom g f xs ys i n → i ≤ k → k < i + n → R (get_or xs k 0) (get_or ys k d)
+maps_at xs ys R c zero i k d m l u = absurd (omega arith)
+maps_at {g = g} {f} xs ys R c (suc n) i k d m l u = ⊎_elim
+    (λ e. subst (λ z. R (get_or xs z 0) (get_or ys z d)) (sym e) (subst (λ z. R z (get_or ys i d)) (sym (m.3.1 0)) (subst (R m.1) (sym (m.4.1 d)) (c m.1 m.2 m.0 m.5).1)))
+    (λ e. maps_at xs ys R c n (i + 1) k d (subst (λ q. MapsFrom g q xs ys (i + 1) n) (c m.1 m.2 m.0 m.5).0 m.6) (omega arith) (omega arith))
     (same? k i)
+
+pub relates_from_map : {F A : Type 0} {g : Mut F (ℕ × Unit {0}) A} {f : F} {xs : List ℕ} {ys : List A} {n : ℕ} (R : ℕ → A → Type 0) → IsMapOf g f xs ys n → ((x : ℕ) (y : A) (q : F) → Called g f (x, tt) y q → (q ≡ f) × R x y) → (k : ℕ) (d : A) → k < n → R (get_or xs k 0) (get_or ys k d)
+relates_from_map {xs = xs} {ys} {n} R m c k d l = maps_at xs ys R c n 0 k d m.each (omega arith) (omega arith)
 
 pub tab_from_map : {F A : Type 0} {g : Mut F (ℕ × Unit {0}) A} {f : F} {xs : List ℕ} {ys : List A} {n : ℕ} (h : ℕ → A) → IsMapOf g f xs ys n → ((x : ℕ) (y : A) (q : F) → Called g f (x, tt) y q → (q ≡ f) × (y ≡ h x)) → ys ≡ tab (λ i. h (get_or xs i 0)) n
 tab_from_map {xs = xs} {ys} {n} h m c =
     same_lists ys (tab (λ i. h (get_or xs i 0)) n) (m.long ∙ sym (length_tab (λ i. h (get_or xs i 0)) n))
-    (λ k d l. let b : k < n = let e = m.long in omega arith in maps_at xs ys h c n 0 k d m.each (omega arith) (omega arith) ∙ sym (get_d_tab (λ i. h (get_or xs i 0)) n k d b))
+    (λ k d l. let b : k < n = let e = m.long in omega arith in relates_from_map (λ x y. y ≡ h x) m c k d b ∙ sym (get_d_tab (λ i. h (get_or xs i 0)) n k d b))
 
 calls_at : {F A : Type 0} {g : Mut F (ℕ × Unit {0}) A} {f : F} (ys : List A) (h : ℕ → A) (e : ℕ) → ((x : ℕ) (y : A) (q : F) → x < e → Called g f (x, tt) y q → (q ≡ f) × (y ≡ h x))
     → (n i k : ℕ) (d : A) → IsFromFnResultFrom g f ys i n → i + n ≤ e → i ≤ k → k < i + n → get_or ys k d ≡ h k
@@ -99,3 +104,31 @@ pub first_from_slice : {F : Type 0} {g : Mut F (Bor ℕ × Unit {0}) Bool} {s : 
     × MatchOption o (r ≡ None) (λ x. (r ≡ Some (length xs)) × ((h : F) × Called g j (x, tt) true h))
     → (xs : List ℕ) → iter_rest s ≡ xs → ((x : Bor ℕ) (b : Bool) (q : F) → Called g f (x, tt) b q → (q ≡ f) × (b ≡ p x.now)) → FirstOf (λ k. p (get_or xs k 0)) (length xs) r
 first_from_slice p u f r d xs e k = first_of_list p xs r (IsFirst-from_position {v = λ y. y.now} u f r (λ x. p x ≡ true) (λ x. p x ≡ false) d (YieldsList-from_slice xs e) (λ x q c. sym (k x true q c).1) (λ x q c. ((k x false q c).0, sym (k x false q c).1)))
+
+first_in_range : (p : ℕ → Bool) (a n : ℕ) (r : Option ℕ) → a ≡ 0 → MatchOption r (AllWithin (λ x. p x ≡ false) (range_with_len a n) 0 (length (range_with_len a n))) (λ i. (i < length (range_with_len a n)) × HoldsAt (λ x. p x ≡ true) (range_with_len a n) i × AllWithin (λ x. p x ≡ false) (range_with_len a n) 0 i) → FirstOf p n r
+first_in_range p a n None z h = λ k l.
+    let e = length-range_with_len a n in
+    let g : a + k ≡ k = omega arith in ap p (sym (get_or-range_with_len a n k 0 l ∙ g)) ∙ h k 0 (omega arith) (omega arith)
+first_in_range p a n (Some i) z h =
+    let e = length-range_with_len a n in
+    let l : i < n = let low = h.0 in omega arith in
+    let g : (k : ℕ) → k < n → get_or (range_with_len a n) k 0 ≡ k = λ k b. let y : a + k ≡ k = omega arith in get_or-range_with_len a n k 0 b ∙ y in
+    (l, ap p (sym (g i l)) ∙ h.1 0, λ k b. ap p (sym (g k (omega arith))) ∙ h.2 k 0 (omega arith) b)
+
+pub first_from_range : {F : Type 0} {g : Mut F (ℕ × Unit {0}) Bool} {s : Range ℕ} (p : ℕ → Bool) (u : Range ℕ) (f : F) (r : Option ℕ)
+    → (xs : List ℕ) × (o : Option ℕ) × (j : F) × YieldsThen nat_range_steps s xs o u × FoldsTo (λ q x t. Called g q (x, tt) false t) f xs j
+    × MatchOption o (r ≡ None) (λ x. (r ≡ Some (length xs)) × ((h : F) × Called g j (x, tt) true h))
+    → s.start ≡ 0 → ((x : ℕ) (b : Bool) (q : F) → Called g f (x, tt) b q → (q ≡ f) × (b ≡ p x)) → FirstOf p s.end r
+first_from_range {s = s} p u f r d z k =
+    let e : s.end - s.start ≡ s.end = omega arith in
+    first_in_range p s.start s.end r z (IsFirst-from_position u f r (λ x. p x ≡ true) (λ x. p x ≡ false) d (YieldsList-from_range s.start s.end s.end refl e) (λ x q c. sym (k x true q c).1) (λ x q c. ((k x false q c).0, sym (k x false q c).1)))
+
+-- with n for none
+pub record FirstOr (p : ℕ → Bool) (n i : ℕ) : Type 0 where
+  pub few : i ≤ n
+  pub before : (k : ℕ) → k < i → p k ≡ false
+  pub here : i < n → p i ≡ true
+
+pub first_or : {p : ℕ → Bool} {n : ℕ} (r : Option ℕ) → FirstOf p n r → FirstOr p n (unwrap_or r n)
+first_or None h = record { few = omega arith; before = h; here = λ l. absurd (omega arith) }
+first_or (Some i) h = record { few = let l = h.0 in omega arith; before = h.2; here = λ l. h.1 }

@@ -1,25 +1,18 @@
 -- `edge_in_lem` meets its contract. Assumes nothing.
-use mathlib.Core.Path.{◌≡◌, refl}
-use Prim.Native.Nat.{ℕ}
-use lib.ListN.{get_or}
-use borrow.Author.Count.{below_more}
-use borrow.Author.Rules.{rules}
-use native.Mathlib.Omega.{arith}
+use Rattle.std.proofs.Common.{rules, ◌∙◌, sym, arith, eqb, eqb-true, eq-eqb, true≢false, get_or, length, None}
+use Rattle.model.specs.Limits.{degree_limit}
+use Rattle.foundations.specs.Ranges.{FirstOf, first_from_slice}
 use Rattle.adjacency.specs.NeighbourSteps.{edge_here, edge_nowhere}
 use Rattle.adjacency.proofs.edge_in.Goals as goal
 
-pub loop-i-init : goal.loop-i-init
-loop-i-init c = (omega arith, refl, λ k h. absurd (omega arith))
-
-pub returns-then-names-i : goal.returns-then-names-i
-returns-then-names-i c =
+pub returns-in-Some : goal.returns-in-Some
+returns-in-Some c =
     let a = c.args in
-    rw c.loop-i.invariant.1 (edge_here a.w a.c c.loop-i.i a.names a.edges (search rules) (omega arith) c.requires c.if-names-i.true)
+    let h = first_from_slice (λ x. eqb x a.w) _ _ _ c.in-Some.ensures.ran a.names c.iter.ensures.rest (λ x b q k. search rules) in
+    edge_here a.w a.c c.in-Some.i a.names a.edges (search rules) (omega (arith, h.0)) c.requires (eqb-true _ _ h.1)
 
-pub loop-i-preserved : goal.loop-i-preserved
-loop-i-preserved c = (omega arith, c.loop-i.invariant.1, below_more (λ (k : ℕ). get_or c.args.names k 0 ≡ c.args.w → ⊥) c.loop-i.i c.loop-i.invariant.2 c.if-names-i.false)
-
-pub returns : goal.returns
-returns c =
+pub returns-in_default : goal.returns-in_default
+returns-in_default c =
     let a = c.args in
-    rw c.loop-i.invariant.1 (edge_nowhere a.w a.c c.loop-i.i a.names a.edges (search rules) (omega arith) c.loop-i.invariant.2)
+    let h : FirstOf (λ k. eqb (get_or a.names k 0) a.w) (length a.names) None = first_from_slice (λ x. eqb x a.w) _ _ None c.in_default.ensures.ran a.names c.iter.ensures.rest (λ x b q k. search rules) in
+    edge_nowhere a.w a.c degree_limit a.names a.edges (search rules) (omega arith) (λ k l e. true≢false (sym (eq-eqb _ _ e) ∙ h k (omega arith)))

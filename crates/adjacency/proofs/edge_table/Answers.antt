@@ -1,7 +1,5 @@
 -- `edge_table` meets its contract. Assumes nothing.
-use Prim.Native.Nat.{◌<◌}
 use mathlib.Core.Path.{◌∙◌}
-use Rattle.model.specs.Limits.{vertex_limit}
 use Rattle.trees.specs.Accepted.{Ends, edge_known}
 use Rattle.adjacency.specs.NeighbourSteps.{no_edges, seen_rows, edges_end, once_row}
 use borrow.Author.Rules.{rules}
@@ -9,7 +7,7 @@ use native.Mathlib.Omega.{arith}
 use Rattle.adjacency.proofs.edge_table.Goals as goal
 
 pub loop-j-init : goal.loop-j-init
-loop-j-init c = (omega arith, c.requires.t_value ∙ no_edges _ _ c.args.neighbours.now)
+loop-j-init c = c.requires.t_value ∙ no_edges _ _ c.args.neighbours.now
 
 pub end_a-a-requires : goal.end_a-a-requires
 end_a-a-requires c =
@@ -33,102 +31,24 @@ from_second-c-requires c =
     let k = edge_known _ _ _ c.loop-j.j S.passed (omega arith) in
     rw (c.edge_label_at-l.ensures, n.ensures) (omega (arith, k, S.few_labels))
 
-pub offset_bounds-t-b : goal.offset_bounds-t-b
-offset_bounds-t-b c =
-    let ends : Ends c.args.s.now c.vertex_count-n.result = rw c.vertex_count-n.ensures c.requires.sound.passed.ends in
-    let low-b : c.end_b-b.result < vertex_limit = omega (arith, (ends).low c.loop-j.j (omega arith), (ends).few, c.end_b-b.ensures) in
-    omega (arith, low-b)
-
-pub bounds-t-b : goal.bounds-t-b
-bounds-t-b c =
-    let ends : Ends c.args.s.now c.vertex_count-n.result = rw c.vertex_count-n.ensures c.requires.sound.passed.ends in
-    let low-b : c.end_b-b.result < vertex_limit = omega (arith, (ends).low c.loop-j.j (omega arith), (ends).few, c.end_b-b.ensures) in
-    omega (arith, low-b)
-
-pub offset_bounds-neighbours-b : goal.offset_bounds-neighbours-b
-offset_bounds-neighbours-b c =
-    let ends : Ends c.args.s.now c.vertex_count-n.result = rw c.vertex_count-n.ensures c.requires.sound.passed.ends in
-    let low-b : c.end_b-b.result < vertex_limit = omega (arith, (ends).low c.loop-j.j (omega arith), (ends).few, c.end_b-b.ensures) in
-    omega (arith, low-b)
-
-pub bounds-neighbours-b : goal.bounds-neighbours-b
-bounds-neighbours-b c =
-    let ends : Ends c.args.s.now c.vertex_count-n.result = rw c.vertex_count-n.ensures c.requires.sound.passed.ends in
-    let low-b : c.end_b-b.result < vertex_limit = omega (arith, (ends).low c.loop-j.j (omega arith), (ends).few, c.end_b-b.ensures) in
-    omega (arith, low-b)
-
 pub edge_in-q-requires : goal.edge_in-q-requires
 edge_in-q-requires c =
     let ends : Ends c.args.s.now c.vertex_count-n.result = rw c.vertex_count-n.ensures c.requires.sound.passed.ends in
-    let low-b : c.end_b-b.result < vertex_limit = omega (arith, (ends).low c.loop-j.j (omega arith), (ends).few, c.end_b-b.ensures) in
-    let low-a : c.end_a-a.result < vertex_limit = omega (arith, (ends).low c.loop-j.j (omega arith), (ends).few, c.end_a-a.ensures) in
-    once_row c.args.s.now _ _ _ c.requires.neighbours_value (low-b) (low-a)
-
-pub offset_bounds-t-b-in-loop-j : goal.offset_bounds-t-b-in-loop-j
-offset_bounds-t-b-in-loop-j c =
-    let ends : Ends c.args.s.now c.vertex_count-n.result = rw c.vertex_count-n.ensures c.requires.sound.passed.ends in
-    let low-b : c.end_b-b.result < vertex_limit = omega (arith, (ends).low c.loop-j.j (omega arith), (ends).few, c.end_b-b.ensures) in
-    omega (arith, low-b)
-
-pub bounds-t-b-in-loop-j : goal.bounds-t-b-in-loop-j
-bounds-t-b-in-loop-j c =
-    let ends : Ends c.args.s.now c.vertex_count-n.result = rw c.vertex_count-n.ensures c.requires.sound.passed.ends in
-    let low-b : c.end_b-b.result < vertex_limit = omega (arith, (ends).low c.loop-j.j (omega arith), (ends).few, c.end_b-b.ensures) in
-    omega (arith, low-b)
-
-pub offset_bounds-t-a : goal.offset_bounds-t-a
-offset_bounds-t-a c =
-    let ends : Ends c.args.s.now c.vertex_count-n.result = rw c.vertex_count-n.ensures c.requires.sound.passed.ends in
-    let low-a : c.end_a-a.result < vertex_limit = omega (arith, (ends).low c.loop-j.j (omega arith), (ends).few, c.end_a-a.ensures) in
-    omega (arith, low-a)
-
-pub bounds-t-a : goal.bounds-t-a
-bounds-t-a c =
-    let ends : Ends c.args.s.now c.vertex_count-n.result = rw c.vertex_count-n.ensures c.requires.sound.passed.ends in
-    let low-a : c.end_a-a.result < vertex_limit = omega (arith, (ends).low c.loop-j.j (omega arith), (ends).few, c.end_a-a.ensures) in
-    omega (arith, low-a)
-
-pub offset_bounds-neighbours-a : goal.offset_bounds-neighbours-a
-offset_bounds-neighbours-a c =
-    let ends : Ends c.args.s.now c.vertex_count-n.result = rw c.vertex_count-n.ensures c.requires.sound.passed.ends in
-    let low-a : c.end_a-a.result < vertex_limit = omega (arith, (ends).low c.loop-j.j (omega arith), (ends).few, c.end_a-a.ensures) in
-    omega (arith, low-a)
-
-pub bounds-neighbours-a : goal.bounds-neighbours-a
-bounds-neighbours-a c =
-    let ends : Ends c.args.s.now c.vertex_count-n.result = rw c.vertex_count-n.ensures c.requires.sound.passed.ends in
-    let low-a : c.end_a-a.result < vertex_limit = omega (arith, (ends).low c.loop-j.j (omega arith), (ends).few, c.end_a-a.ensures) in
-    omega (arith, low-a)
+    once_row c.args.s.now _ _ _ c.requires.neighbours_value c.end_b-b.ensures.few c.end_a-a.ensures.few
 
 pub edge_in-p-requires : goal.edge_in-p-requires
 edge_in-p-requires c =
     let ends : Ends c.args.s.now c.vertex_count-n.result = rw c.vertex_count-n.ensures c.requires.sound.passed.ends in
-    let low-b : c.end_b-b.result < vertex_limit = omega (arith, (ends).low c.loop-j.j (omega arith), (ends).few, c.end_b-b.ensures) in
-    let low-a : c.end_a-a.result < vertex_limit = omega (arith, (ends).low c.loop-j.j (omega arith), (ends).few, c.end_a-a.ensures) in
-    once_row c.args.s.now _ _ _ c.requires.neighbours_value (low-a) (low-b)
-
-pub offset_bounds-t-a-in-loop-j : goal.offset_bounds-t-a-in-loop-j
-offset_bounds-t-a-in-loop-j c =
-    let ends : Ends c.args.s.now c.vertex_count-n.result = rw c.vertex_count-n.ensures c.requires.sound.passed.ends in
-    let low-a : c.end_a-a.result < vertex_limit = omega (arith, (ends).low c.loop-j.j (omega arith), (ends).few, c.end_a-a.ensures) in
-    omega (arith, low-a)
-
-pub bounds-t-a-in-loop-j : goal.bounds-t-a-in-loop-j
-bounds-t-a-in-loop-j c =
-    let ends : Ends c.args.s.now c.vertex_count-n.result = rw c.vertex_count-n.ensures c.requires.sound.passed.ends in
-    let low-a : c.end_a-a.result < vertex_limit = omega (arith, (ends).low c.loop-j.j (omega arith), (ends).few, c.end_a-a.ensures) in
-    omega (arith, low-a)
+    once_row c.args.s.now _ _ _ c.requires.neighbours_value c.end_a-a.ensures.few c.end_b-b.ensures.few
 
 pub loop-j-preserved : goal.loop-j-preserved
 loop-j-preserved c =
     let ends : Ends c.args.s.now c.vertex_count-n.result = rw c.vertex_count-n.ensures c.requires.sound.passed.ends in
-    let low-b : c.end_b-b.result < vertex_limit = omega (arith, (ends).low c.loop-j.j (omega arith), (ends).few, c.end_b-b.ensures) in
-    let low-a : c.end_a-a.result < vertex_limit = omega (arith, (ends).low c.loop-j.j (omega arith), (ends).few, c.end_a-a.ensures) in
     let a = c.args in
-    (omega arith, seen_rows a.s.now c.vertex_count-n.result c.loop-j.j c.end_a-a.result c.end_b-b.result c.edge_label_at-l.result c.from_second-c.result a.neighbours.now c.loop-j.t c.edge_in-p.result c.edge_in-q.result (low-a) (low-b) c.end_a-a.ensures c.end_b-b.ensures c.edge_label_at-l.ensures c.from_second-c.ensures c.loop-j.invariant.1 c.edge_in-q.ensures c.edge_in-p.ensures)
+    seen_rows a.s.now c.vertex_count-n.result c.loop-j.j c.end_a-a.result c.end_b-b.result c.edge_label_at-l.result c.from_second-c.result a.neighbours.now c.loop-j.t c.edge_in-p.result c.edge_in-q.result c.end_a-a.ensures.few c.end_b-b.ensures.few c.end_a-a.ensures.value c.end_b-b.ensures.value c.edge_label_at-l.ensures c.from_second-c.ensures c.loop-j.invariant c.edge_in-q.ensures c.edge_in-p.ensures
 
 pub returns : goal.returns
 returns c =
     let ends : Ends c.args.s.now c.vertex_count-n.result = rw c.vertex_count-n.ensures c.requires.sound.passed.ends in
     let n = c.vertex_count-n in
-    edges_end c.args.s.now n.result c.loop-j.j c.args.neighbours.now c.loop-j.t c.requires.sound.passed.ends c.requires.neighbours_value n.ensures (omega (arith, (ends).some)) c.loop-j.invariant.1
+    edges_end c.args.s.now n.result c.loop-j.j c.args.neighbours.now c.loop-j.t c.requires.sound.passed.ends c.requires.neighbours_value n.ensures (omega (arith, (ends).some)) c.loop-j.invariant

@@ -5,13 +5,13 @@ use native.Mathlib.Omega.{arith}
 use Rattle.adjacency.proofs.put_in.Goals as goal
 
 pub loop-i-init : goal.loop-i-init
-loop-i-init c = (omega arith, putting_none _ _ (search rules))
+loop-i-init c = putting_none _ _ (search rules)
 
 pub returns-then-c : goal.returns-then-c
-returns-then-c c = putting_nothing c.loop-i.i c.loop-i.c c.loop-i.r _ c.if-c.true c.loop-i.invariant.1
+returns-then-c c = putting_nothing c.loop-i.i c.loop-i.c c.loop-i.r _ c.if-c.true c.loop-i.invariant
 
 pub loop-i-preserved : goal.loop-i-preserved
-loop-i-preserved c = (omega arith, putting_more c.loop-i.i c.loop-i.c c.stays-low.result c.carry-high.result c.loop-i.r _ (omega arith) c.if-c.false c.stays-low.ensures c.carry-high.ensures c.loop-i.invariant.1)
+loop-i-preserved c = putting_more c.loop-i.i c.loop-i.c c.min.result c.carry-c.result c.loop-i.r _ (omega arith) c.if-c.false c.min.ensures c.carry-c.ensures c.loop-i.invariant
 
 pub returns : goal.returns
-returns c = putting_all c.loop-i.i c.loop-i.c c.loop-i.r _ (omega arith) c.loop-i.invariant.1
+returns c = putting_all c.loop-i.i c.loop-i.c c.loop-i.r _ (omega arith) c.loop-i.invariant
