@@ -42,10 +42,6 @@ pub record SmallSum (s t : ℤ) : Type 0 where
 pub small_sum : {j k : ℕ} {x y s t : ℤ} → j + k ≤ part_limit → SumTo j x s → SumTo k y t → SmallSum s t
 small_sum h S R = let a = S.high in let b = S.low in let c = R.high in let d = R.low in record { high = omega arith; low = omega arith }
 
--- so their sum fits
-pub small_fits : {s t : ℤ} → SmallSum s t → SFits w32 (s +ℤ t)
-small_fits {s} {t} S = let a = S.high in let b = S.low in omega (ints, plus s t)
-
 pub sum_none : (F : ℕ → ℤ) → SumTo 0 (sumℤ 0 F) (pos 0)
 unfolding sumℤ
 sum_none F = record { is = refl; high = omega arith; low = omega arith }
@@ -65,7 +61,7 @@ sum_more i F s t r S R e = subst (λ (z : ℤ). SumTo (i + 1) z r) (sym (sumℤ_
 
 -- a loop's turn: the sum fits, and has one term more
 pub sum_turn : (F : ℕ → ℤ) {i n : ℕ} {s t : ℤ} → SumTo i (sumℤ i F) s → SumTo 1 (F i) t → i < n → n ≤ part_limit → SFits w32 (s +ℤ t)
-sum_turn F S R l h = small_fits (small_sum (omega arith) S R)
+sum_turn F {s = s} {t = t} S R l h = let a = S.high in let b = S.low in let c = R.high in let d = R.low in omega (ints, plus s t)
 
 -- and its end
 pub sum_end : (F : ℕ → ℤ) {i n : ℕ} {s : ℤ} → i ≡ n → SumTo i (sumℤ i F) s → SumTo n (sumℤ n F) s
