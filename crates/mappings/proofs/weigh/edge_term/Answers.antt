@@ -7,26 +7,26 @@ use Rattle.mappings.proofs.weigh.edge_term.Goals as goal
 
 pub slot-c-requires : goal.slot-c-requires
 slot-c-requires c =
-    let at = ends_at _ _ _ _ c.requires.ground c.n-n.ensures.value c.requires.j_bound c.end_a.ensures c.end_b.ensures in
+    let at = ends_at _ _ _ _ c.requires.ground c.n-n.ensures.value c.requires.j_bound c.end_a.ensures.value c.end_b.ensures.value in
     let q = slot_asks c.args.on.now.ready (a_low _ _ _ _ c.requires.ground c.args.j _ _ c.requires.j_bound at.first at.second c.if-a.false c.if-b.false) in
     record { v_lt_vertex_limit = q.0; v_bound = q.1 }
 
 pub overflow_sub-c : goal.overflow_sub-c
 overflow_sub-c c =
-    let at = ends_at _ _ _ _ c.requires.ground c.n-n.ensures.value c.requires.j_bound c.end_a.ensures c.end_b.ensures in
+    let at = ends_at _ _ _ _ c.requires.ground c.n-n.ensures.value c.requires.j_bound c.end_a.ensures.value c.end_b.ensures.value in
     let low = a_low _ _ _ _ c.requires.ground c.args.j _ _ c.requires.j_bound at.first at.second c.if-a.false c.if-b.false in
     slot_some c.args.on.now.ready low c.slot-c.ensures (adjacent _ _ _ _ c.requires.ground c.args.j _ _ c.requires.j_bound at.first at.second c.if-a.false c.if-b.false)
 
 pub neighbour_edge-k-requires : goal.neighbour_edge-k-requires
 neighbour_edge-k-requires c =
-    let at = ends_at _ _ _ _ c.requires.ground c.n-n.ensures.value c.requires.j_bound c.end_a.ensures c.end_b.ensures in
+    let at = ends_at _ _ _ _ c.requires.ground c.n-n.ensures.value c.requires.j_bound c.end_a.ensures.value c.end_b.ensures.value in
     let low = a_low _ _ _ _ c.requires.ground c.args.j _ _ c.requires.j_bound at.first at.second c.if-a.false c.if-b.false in
     let some = slot_some c.args.on.now.ready low c.slot-c.ensures (adjacent _ _ _ _ c.requires.ground c.args.j _ _ c.requires.j_bound at.first at.second c.if-a.false c.if-b.false) in
     ((slot_asks c.args.on.now.ready low).0, slot_low c.args.on.now.ready low c.slot-c.ensures some)
 
 pub edge_pair-requires-clause-i_bound : goal.edge_pair-requires-clause-i_bound
 edge_pair-requires-clause-i_bound c =
-    let at = ends_at _ _ _ _ c.requires.ground c.n-n.ensures.value c.requires.j_bound c.end_a.ensures c.end_b.ensures in
+    let at = ends_at _ _ _ _ c.requires.ground c.n-n.ensures.value c.requires.j_bound c.end_a.ensures.value c.end_b.ensures.value in
     let low = a_low _ _ _ _ c.requires.ground c.args.j _ _ c.requires.j_bound at.first at.second c.if-a.false c.if-b.false in
     let some = slot_some c.args.on.now.ready low c.slot-c.ensures (adjacent _ _ _ _ c.requires.ground c.args.j _ _ c.requires.j_bound at.first at.second c.if-a.false c.if-b.false) in
     rw (c.edge_label_at-i.ensures, c.n-n.ensures.value)
@@ -34,7 +34,7 @@ edge_pair-requires-clause-i_bound c =
 
 pub returns : goal.returns
 returns c =
-    let at = ends_at _ _ _ _ c.requires.ground c.n-n.ensures.value c.requires.j_bound c.end_a.ensures c.end_b.ensures in
+    let at = ends_at _ _ _ _ c.requires.ground c.n-n.ensures.value c.requires.j_bound c.end_a.ensures.value c.end_b.ensures.value in
     let low = a_low _ _ _ _ c.requires.ground c.args.j _ _ c.requires.j_bound at.first at.second c.if-a.false c.if-b.false in
     let some = slot_some c.args.on.now.ready low c.slot-c.ensures (adjacent _ _ _ _ c.requires.ground c.args.j _ _ c.requires.j_bound at.first at.second c.if-a.false c.if-b.false) in
     let seen = slot_edge c.args.on.now.ready low c.slot-c.ensures some in
