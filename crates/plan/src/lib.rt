@@ -73,7 +73,7 @@ pub fn child_count(plan: &Plan, u: u8) -> usize
     requires { u < vertex_limit }
     ensures { result ≡ child_count_in plan.now u }
 {
-    wide(plan[u as usize][0])
+    usize::from(plan[u as usize][0])
 }
 
 // Its place in the postorder.
@@ -81,7 +81,7 @@ pub fn place(plan: &Plan, u: u8) -> usize
     requires { u < vertex_limit }
     ensures { result ≡ place_in plan.now u }
 {
-    wide(plan[u as usize][1])
+    usize::from(plan[u as usize][1])
 }
 
 // The vertex in place i of the postorder.
@@ -129,7 +129,7 @@ pub fn child_place(plan: &Plan, u: u8, i: usize) -> usize
     requires { (u < vertex_limit) × (i < degree_limit) }
     ensures { result ≡ child_place_in plan.now u i }
 {
-    wide(plan[Blocks::CHILD_PLACE + (u as usize)][i])
+    usize::from(plan[Blocks::CHILD_PLACE + (u as usize)][i])
 }
 
 // How many neighbours found vertex v has.
@@ -137,7 +137,7 @@ pub fn degree(plan: &Plan, v: u8) -> usize
     requires { v < vertex_limit }
     ensures { result ≡ degree_in plan.now v }
 {
-    wide(plan[Blocks::FOUND + (v as usize)][0])
+    usize::from(plan[Blocks::FOUND + (v as usize)][0])
 }
 
 // Where its subproblems begin among those of one recorded vertex.
@@ -145,7 +145,7 @@ pub fn offset(plan: &Plan, v: u8) -> usize
     requires { v < vertex_limit }
     ensures { result ≡ offset_in plan.now v }
 {
-    wide(plan[Blocks::FOUND + (v as usize)][1])
+    usize::from(plan[Blocks::FOUND + (v as usize)][1])
 }
 
 // The j-th neighbour of v.
@@ -169,7 +169,7 @@ pub fn behind(plan: &Plan, v: u8, j: usize) -> usize
     requires { (v < vertex_limit) × (j < degree_limit) }
     ensures { result ≡ behind_in plan.now v j }
 {
-    wide(plan[Blocks::BEHIND + (v as usize)][j])
+    usize::from(plan[Blocks::BEHIND + (v as usize)][j])
 }
 
 // The last of the first m found vertices whose subproblems begin at `rest` or before; those of `first` do.
@@ -178,14 +178,13 @@ pub fn locate(plan: &Plan, m: usize, rest: usize, first: u8) -> u8
     requires first_bound { 0 < first → offset_in plan.now first ≤ rest }
     ensures { Located (offset_in plan.now) m rest result }
 {
-    let mut v = first;
-    while (v as usize) + 1 < m {
+    let last = (m - 1) as u8;
+    for v in first..last {
         if rest < offset(plan, v + 1) {
             return v;
         }
-        v += 1;
     }
-    v
+    last
 }
 
 // Which choice s is for v: one more than its place for a neighbour, 0 for any other.
@@ -194,13 +193,8 @@ pub fn slot(plan: &Plan, v: u8, s: u8) -> usize
     requires v_bound { degree_in plan.now v ≤ degree_limit }
     ensures { SlotAt plan.now v s result }
 {
-    let l = degree(plan, v);
-    let mut j: usize = 0;
-    while j < l {
-        if neighbour(plan, v, j) == s {
-            return j + 1;
-        }
-        j += 1;
+    match (0..degree(plan, v)).position(|j| neighbour(plan, v, j) == s) {
+        Some(j) => j + 1,
+        None => 0,
     }
-    0
 }

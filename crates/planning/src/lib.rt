@@ -19,18 +19,18 @@ use model::{Limits, PlaceTable, Row, VertexTable};
 use plan::{Blocks, Plan};
 use trees::{places, postorder};
 
+// The first place of v in a row, or DEGREE.
+fn find(row: Row, v: u8) -> u8
+    ensures { At row v result }
+{
+    row.iter().position(|x| *x == v).unwrap_or(Limits::PLACES) as u8
+}
+
 // How many places of a row are taken.
 fn taken(row: Row) -> u8
     ensures { TakenPlaces row result }
 {
-    let mut k: u8 = 0;
-    while k < Limits::DEGREE {
-        if row[k as usize] == Limits::NONE {
-            return k;
-        }
-        k += 1;
-    }
-    k
+    find(row, Limits::NONE)
 }
 
 // Where the subproblems of each found vertex begin among those of one recorded vertex.
@@ -41,11 +41,9 @@ fn starts(found: &[u8], neighbours: &PlaceTable) -> [u8; Limits::PREFIXES]
 {
     let n = vertex_count(found);
     let mut s = [0u8; Limits::PREFIXES];
-    let mut v: usize = 0;
-    while v < n {
+    for v in 0..n {
         let k = taken(neighbours[v]);
         s[v + 1] = s[v] + 1 + k;
-        v += 1;
     }
     s
 }
@@ -70,14 +68,6 @@ fn place_or(place: &VertexTable, w: u8) -> u8
     }
 }
 
-// One more where p comes before `own`.
-fn next(c: u8, p: u8, own: u8) -> u8
-    requires { c < degree_limit }
-    ensures { result ≡ next_of c p own }
-{
-    if p < own { c + 1 } else { c }
-}
-
 // Of the neighbours in their places: those that come before `own` in the postorder are the children.
 fn children(neighbours: Row, edges: Row, place: &VertexTable, own: u8) -> Family
     ensures { ChildrenTo neighbours edges place.now own degree_limit result.count result.edge result.place result.vertex }
@@ -86,15 +76,13 @@ fn children(neighbours: Row, edges: Row, place: &VertexTable, own: u8) -> Family
     let mut edge = [0u8; Limits::PLACES];
     let mut at = [0u8; Limits::PLACES];
     let mut c: u8 = 0;
-    let mut i: usize = 0;
-    while i < Limits::PLACES {
+    for i in 0..Limits::PLACES {
         let w = neighbours[i];
         let p = place_or(place, w);
         vertex[c as usize] = w;
         edge[c as usize] = edges[i];
         at[c as usize] = p;
-        c = next(c, p, own);
-        i += 1;
+        c += u8::from(p < own);
     }
     Family {
         count: c,
@@ -102,20 +90,6 @@ fn children(neighbours: Row, edges: Row, place: &VertexTable, own: u8) -> Family
         edge: edge,
         place: at,
     }
-}
-
-// The first place of v in a row, or DEGREE.
-fn find(row: Row, v: u8) -> u8
-    ensures { At row v result }
-{
-    let mut i: u8 = 0;
-    while i < Limits::DEGREE {
-        if row[i as usize] == v {
-            return i;
-        }
-        i += 1;
-    }
-    i
 }
 
 // Where the subproblem of x with v as its s stands among those of one recorded vertex, 0 where x is no vertex.
@@ -137,40 +111,23 @@ fn behind_row(neighbours: &PlaceTable, starts: &[u8; Limits::PREFIXES], v: u8) -
     requires by_index { (y : ℕ) → get_or starts.now y 0 ≤ width_limit }
     ensures { BehindTo neighbours.now starts.now v degree_limit result }
 {
-    let row = neighbours[v as usize];
-    let mut r = [0u8; Limits::PLACES];
-    let mut j: usize = 0;
-    while j < Limits::PLACES {
-        let b = behind_one(neighbours, starts, v, row[j]);
-        r[j] = b;
-        j += 1;
-    }
-    r
+    neighbours[v as usize].map(|x| behind_one(neighbours, starts, v, x))
 }
 
 // w is a vertex that comes after place `own` of the postorder.
 fn is_later(place: &VertexTable, w: u8, own: u8) -> bool
     ensures { result ≡ is_later place.now own w }
 {
-    if w < Limits::VERTICES {
-        return own < place[w as usize];
-    }
-    false
+    w < Limits::VERTICES && own < place[w as usize]
 }
 
 // The first place of a row whose vertex comes after place `own`, PLACES for none.
 fn later_at(row: Row, place: &VertexTable, own: u8) -> usize
     ensures { LaterAt row place.now own result }
 {
-    let mut i: usize = 0;
-    while i < Limits::PLACES {
-        let later = is_later(place, row[i], own);
-        if later {
-            return i;
-        }
-        i += 1;
-    }
-    i
+    row.iter()
+        .position(|w| is_later(place, *w, own))
+        .unwrap_or(Limits::PLACES)
 }
 
 // What stands in place k, 0 where k is no place.
@@ -208,8 +165,7 @@ fn store_recorded(
     ensures { RecordedHalf recorded.now plan.old plan.new (count recorded.now) }
 {
     let n = vertex_count(recorded);
-    let mut u: usize = 0;
-    while u < n {
+    for u in 0..n {
         let own = place[u];
         let row = children(neighbours[u], edges[u], place, own);
         let k = later_at(neighbours[u], place, own);
@@ -223,7 +179,6 @@ fn store_recorded(
         plan[Blocks::CHILD_EDGE + u] = edge;
         let at = row.place;
         plan[Blocks::CHILD_PLACE + u] = at;
-        u += 1;
     }
 }
 
@@ -240,8 +195,7 @@ fn store_found(
     ensures { FoundHalf found.now plan.old plan.new (count found.now) }
 {
     let m = vertex_count(found);
-    let mut v: usize = 0;
-    while v < m {
+    for v in 0..m {
         let row = neighbours[v];
         let back = behind_row(neighbours, starts, v as u8);
         let mut head = [0u8; Limits::PLACES];
@@ -252,7 +206,6 @@ fn store_found(
         let edge = edges[v];
         plan[Blocks::NEIGHBOUR_EDGE + v] = edge;
         plan[Blocks::BEHIND + v] = back;
-        v += 1;
     }
 }
 
@@ -274,13 +227,11 @@ fn store_vertices(plan: &mut Plan, s: &[u8], first: usize)
     ensures { VerticesHere s.now first plan.old plan.new (count s.now) }
 {
     let n = vertex_count(s);
-    let mut v: usize = 0;
-    while v < n {
+    for v in 0..n {
         let label = vertex_label(s, n, v);
         let serial = serial_of(s, n, v);
         let row = vertex_row(label, serial);
         plan[first + v] = row;
-        v += 1;
     }
 }
 

@@ -1,10 +1,7 @@
 -- `locate` meets its contract. Assumes nothing.
-use Prim.Native.Nat.{◌≤◌, ◌<◌, ◌-◌}
+use Prim.Native.Nat.{◌≤◌, ◌<◌}
 use Rattle.plan.specs.Plan.{offset_in}
 use Rattle.plan.proofs.locate.Given as goal
 
 abbrev pub invariant-loop-v : goal.invariant-loop-v
-invariant-loop-v l = (l.v < l.m) × (0 < l.v → offset_in l.plan l.v ≤ l.rest)
-
-abbrev pub decreases-loop-v : goal.decreases-loop-v
-decreases-loop-v l = l.m - l.v
+invariant-loop-v l = 0 < l.v → offset_in l.plan l.v ≤ l.rest

@@ -8,6 +8,6 @@ pub returns-then-w-lt-VERTICES : goal.returns-then-w-lt-VERTICES
 unfolding is_later
 returns-then-w-lt-VERTICES c = rw (lt-ltb _ vertex_limit c.if-w-lt-VERTICES.true)
 
-pub returns : goal.returns
+pub returns-else-w-lt-VERTICES : goal.returns-else-w-lt-VERTICES
 unfolding is_later
-returns c = rw (le-ltb _ vertex_limit c.if-w-lt-VERTICES.false)
+returns-else-w-lt-VERTICES c = rw (le-ltb _ vertex_limit c.if-w-lt-VERTICES.false)

@@ -1,19 +1,15 @@
 -- `later_at` meets its contract. Assumes nothing.
-use mathlib.Core.Path.{sym, ◌∙◌}
-use mathlib.Core.Bool.{true≢false}
-use native.Mathlib.Nat.{not-suc-le-zero}
-use native.Mathlib.Omega.{arith}
-use borrow.Author.Count.{below_more}
+use Rattle.std.proofs.Common.{rules, ◌≡◌, ◌∙◌, sym, subst, true≢false, get_or, length, ℕ, Bool}
+use Rattle.foundations.specs.Ranges.{FirstOf, FirstOr, first_from_slice, first_or}
+use Rattle.model.specs.Limits.{degree_limit}
+use Rattle.planning.specs.Parents.{is_later}
 use Rattle.planning.proofs.later_at.Goals as goal
 
-pub loop-i-init : goal.loop-i-init
-loop-i-init c = (omega arith, λ k h. absurd (not-suc-le-zero h))
-
-pub returns-then-later : goal.returns-then-later
-returns-then-later c = record { few = omega arith; before = c.loop-i.invariant.1; here = λ h. sym c.is_later-later.ensures ∙ c.if-later.true }
-
-pub loop-i-preserved : goal.loop-i-preserved
-loop-i-preserved c = (omega arith, below_more _ _ c.loop-i.invariant.1 (λ e. true≢false (sym e ∙ sym c.is_later-later.ensures ∙ c.if-later.false)))
-
 pub returns : goal.returns
-returns c = record { few = c.loop-i.invariant.0; before = c.loop-i.invariant.1; here = λ h. absurd (omega (arith, h)) }
+returns c =
+    let a = c.args in
+    let p : ℕ → Bool = λ k. is_later a.place.now a.own (get_or a.row k 0) in
+    let e : length a.row ≡ degree_limit = search rules in
+    let f : FirstOf p degree_limit c.position.result = subst (λ n. FirstOf p n c.position.result) e (first_from_slice (is_later a.place.now a.own) _ _ _ c.position.ensures.ran a.row c.iter.ensures.rest (λ x b q k. search rules)) in
+    let r : FirstOr p degree_limit c.unwrap_or.result = subst (FirstOr p degree_limit) (sym c.unwrap_or.ensures) (first_or c.position.result f) in
+    record { few = r.few; before = λ k l h. true≢false (sym h ∙ r.before k l); here = r.here }

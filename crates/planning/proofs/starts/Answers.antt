@@ -13,21 +13,21 @@ vertex_count-n-requires c =
     record { some = e.some; few = e.few; long = e.long }
 
 pub loop-v-init : goal.loop-v-init
-loop-v-init c = (omega arith, search rules, starts_none _ _ refl (zeros prefix_limit))
+loop-v-init c = (search rules, starts_none _ _ refl (zeros prefix_limit))
 
 pub overflow_add-s : goal.overflow_add-s
-overflow_add-s c = omega (arith, c.loop-v.invariant.2.small c.loop-v.v)
+overflow_add-s c = omega (arith, c.loop-v.invariant.1.small c.loop-v.v)
 
 pub overflow_add-s-in-loop-v : goal.overflow_add-s-in-loop-v
 overflow_add-s-in-loop-v c =
-    let k : c.taken-k.result ≤ degree_limit = c.taken-k.ensures.few in omega (arith, c.loop-v.invariant.2.small c.loop-v.v)
+    let k : c.taken-k.result ≤ degree_limit = c.taken-k.ensures.few in omega (arith, c.loop-v.invariant.1.small c.loop-v.v)
 
 pub loop-v-preserved : goal.loop-v-preserved
 loop-v-preserved c =
     let q = c.requires.sound in
-    (omega arith, c.loop-v.invariant.1, starts_more _ q.K q.L q.passed c.loop-v.v c.loop-v.s c.taken-k.result _ (omega arith) c.loop-v.invariant.2 (rw c.requires.neighbours_value at c.taken-k.ensures) refl)
+    (c.loop-v.invariant.0, starts_more _ q.K q.L q.passed c.loop-v.v c.loop-v.s c.taken-k.result _ (omega arith) c.loop-v.invariant.1 (rw c.requires.neighbours_value at c.taken-k.ensures) refl)
 
 pub returns : goal.returns
 returns c =
     let e : c.loop-v.v ≡ c.vertex_count-n.result = omega arith in
-    rw (e, c.loop-v.invariant.1) at c.loop-v.invariant.2
+    rw (e, c.loop-v.invariant.0) at c.loop-v.invariant.1

@@ -1,12 +1,8 @@
 -- `starts` meets its contract. Assumes nothing.
 use Rattle.model.specs.Tree.{count}
 use Rattle.planning.specs.Making.{Starts}
-use Prim.Native.Nat.{◌≤◌, ◌-◌}
 use mathlib.Core.Path.{◌≡◌}
 use Rattle.planning.proofs.starts.Given as goal
 
 abbrev pub invariant-loop-v : goal.invariant-loop-v
-invariant-loop-v l = (l.v ≤ l.n) × (l.n ≡ count l.found) × Starts l.found l.v l.s
-
-abbrev pub decreases-loop-v : goal.decreases-loop-v
-decreases-loop-v l = l.n - l.v
+invariant-loop-v l = (l.n ≡ count l.found) × Starts l.found l.v l.s

@@ -13,20 +13,19 @@ vertex_count-n-requires c =
 pub loop-u-init : goal.loop-u-init
 loop-u-init c =
     let few = c.requires.recorded_read.sound.passed.ends.few in
-    (omega arith, search rules, omega (arith, few, c.vertex_count-n.ensures), recorded_none _ _ c.requires.plan_len)
+    (search rules, omega (arith, few, c.vertex_count-n.ensures), recorded_none _ _ c.requires.plan_len)
 
 pub loop-u-preserved : goal.loop-u-preserved
 loop-u-preserved c =
     let low = c.loop-u-test.true in
-    let n = c.loop-u.invariant.1 in (
-      omega (arith, low),
+    let n = c.loop-u.invariant.0 in (
+      c.loop-u.invariant.0,
       c.loop-u.invariant.1,
-      c.loop-u.invariant.2,
-      recorded_more c.requires.recorded_read _ c.loop-u.plan c.loop-u.u (omega (arith, low, n)) c.loop-u.invariant.3 _ _ _ _ _ c.later_at-k.result c.children-row.ensures c.later_at-k.ensures
+      recorded_more c.requires.recorded_read _ c.loop-u.plan c.loop-u.u (omega (arith, low, n)) c.loop-u.invariant.2 _ _ _ _ _ c.later_at-k.result c.children-row.ensures c.later_at-k.ensures
           (rw (c.at_or-above.ensures, c.at_or-above_edge.ensures) at c.head_of-head.ensures),
     )
 
 pub returns : goal.returns
 returns c =
     let e : c.loop-u.u ≡ c.vertex_count-n.result = omega arith in
-    rw (e, c.loop-u.invariant.1) at c.loop-u.invariant.3
+    rw (e, c.loop-u.invariant.0) at c.loop-u.invariant.2

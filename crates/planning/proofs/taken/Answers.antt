@@ -1,7 +1,5 @@
 -- `taken` meets its contract. Assumes nothing.
-use borrow.Author.Count.{below_more}
-use borrow.Author.Rules.{rules}
 use Rattle.planning.proofs.taken.Goals as goal
 
-pub loop-k-preserved : goal.loop-k-preserved
-loop-k-preserved c = (search rules, below_more _ _ c.loop-k.invariant.1 c.if-row-k.false)
+pub returns : goal.returns
+returns c = record { few = c.find.ensures.few; before = c.find.ensures.before; stop = c.find.ensures.here }
