@@ -6,7 +6,4 @@ use Rattle.assignment.specs.Matching.{at, gain_limit}
 use Rattle.assignment.proofs.sum_of.Given as goal
 
 abbrev pub invariant-loop-i : goal.invariant-loop-i
-invariant-loop-i l = (l.i ≤ l.n) × (l.s + sum l.i (at l.a) ≡ sum l.n (at l.a)) × (l.s + l.i * gain_limit ≤ l.n * gain_limit)
-
-abbrev pub decreases-loop-i : goal.decreases-loop-i
-decreases-loop-i l = l.i
+invariant-loop-i l = (l.s ≡ sum l.i (at l.a)) × (l.s ≤ l.i * gain_limit)
