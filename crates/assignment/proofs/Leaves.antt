@@ -20,8 +20,18 @@ use Rattle.assignment.specs.Loops.{far, less_of, who_of, open_of, OwnersOf, Near
 pub kept_is : (c : ℕ) (g : List ℕ) (i j : ℕ) {x v : ℕ} → x ≡ kept_of c j v → v ≡ cell g i j → x ≡ out_of c (cell g) i j
 kept_is c g i j e v = e ∙ ap (kept_of c j) v ∙ out_kept c (cell g) i j
 
+-- ---- a place set in a row that was just set
+
+pub set_within : (l : List (List ℕ)) (o : ℕ) (q : List ℕ) (i x : ℕ) → set (set l o q) o (set (get_or (set l o q) o []) i x) ≡ set l o (set q i x)
+set_within l o q i x =
+    set-set l o q (set (get_or (set l o q) o []) i x)
+    ∙ ⊎_elim
+    (λ h. ap (λ (r : List ℕ). set l o (set r i x)) (get_or-set_same l o q [] h))
+    (λ h. set_out l o (set (get_or (set l o q) o []) i x) h ∙ sym (set_out l o (set q i x) h))
+    (less? o (length l))
+
 -- std's minimum is the definitions'
-pub min_less : (new old : ℕ) → min new old ≡ less_of new old
+pub min_less : (new old : ℕ) → min old new ≡ less_of new old
 min_less new old = ⊎_elim (λ h. rw (lt-ltb new old h) (omega arith)) (λ h. rw (le-ltb new old h) (omega arith)) (less? new old)
 
 -- ---- the nearest column
@@ -82,7 +92,7 @@ first_end {F} {s₀} {s} {j} {l} {b} {d} P p q = subst (λ (x : ℕ). First x F 
 pub looked_none : (t : ℕ) (F C : ℕ → ℕ) (s f : List ℕ) → Looked 0 t F C s f s f degree_limit far
 looked_none t F C s f = record { distances = changed_none _ s; sources = changed_none _ f; nearest = nearest_none _ _ degree_limit }
 
-pub looked_more : {t : ℕ} {F C : ℕ → ℕ} {s₀ f₀ s f : List ℕ} (w v u o : ℕ) {j b d b' d' : ℕ} → w ≡ F j → Looked j t F C s₀ f₀ s f b d → j < length s₀ → j < length f₀ → v ≡ min w (at s j) → u ≡ who_of w (at s j) t (at f j) → o ≡ open_of (C j) v → b' ≡ who_of o d j b → d' ≡ less_of o d → Looked (j + 1) t F C s₀ f₀ (set s j v) (set f j u) b' d'
+pub looked_more : {t : ℕ} {F C : ℕ → ℕ} {s₀ f₀ s f : List ℕ} (w v u o : ℕ) {j b d b' d' : ℕ} → w ≡ F j → Looked j t F C s₀ f₀ s f b d → j < length s₀ → j < length f₀ → v ≡ min (at s j) w → u ≡ who_of w (at s j) t (at f j) → o ≡ open_of (C j) v → b' ≡ who_of o d j b → d' ≡ less_of o d → Looked (j + 1) t F C s₀ f₀ (set s j v) (set f j u) b' d'
 looked_more {t} {F} {C} {s₀} {f₀} {s} {f} w v u o {j} ew P h h' ev eu eo eb ed = record {
   distances = changed_more P.distances h (ev ∙ min_less w (at s j) ∙ ap (λ (x : ℕ). less_of x (at s j)) ew);
   sources = changed_more P.sources h' (eu ∙ ap (λ (x : ℕ). who_of x (at s j) t (at f j)) ew ∙ ap (λ (x : ℕ). who_of (F j) x t (at f j)) (P.distances.rest j (omega arith)));

@@ -192,9 +192,10 @@ pub(crate) fn look(
     for j in 0..l {
         let s = base + z[j] - problem.look_at(counts, o, j);
         let old = columns.distance[j];
-        let new = s.min(old);
+        let from = columns.from[j];
+        let new = old.min(s);
         columns.distance[j] = new;
-        columns.from[j] = if s < old { t } else { columns.from[j] };
+        columns.from[j] = if s < old { t } else { from };
         let open = if columns.joined[j] { FAR } else { new };
         near = near.or(j, open);
     }
@@ -233,10 +234,10 @@ fn grow(rows: &mut Rows, columns: &mut Columns, p: usize, b: usize, o: usize, d:
     ensures grown { Grown p b o d rows.old.alternative (marks rows.old.joined) (marks columns.old.joined) rows.old.distance rows.new.alternative (marks rows.new.joined) (marks columns.new.joined) rows.new.distance }
     ensures columns { (columns.new.distance ≡ columns.old.distance) × (columns.new.from ≡ columns.old.from) }
 {
-    let mut alternative = rows.alternative[p];
-    alternative[p] = b as u8;
-    alternative[o] = FREE;
+    let alternative = rows.alternative[p];
     rows.alternative[o] = alternative;
+    rows.alternative[o][p] = b as u8;
+    rows.alternative[o][o] = FREE;
     rows.joined[o] = true;
     columns.joined[b] = true;
     rows.distance[o] = d;
@@ -277,9 +278,9 @@ fn explore(
         let o = usize::from(t);
         if Limits::PLACES <= o {
             settle(solution, &rows, columns, &problem.matrix, d);
-            let mut matching = rows.alternative[p];
-            matching[p] = b as u8;
+            let matching = rows.alternative[p];
             solution.column_of = matching;
+            solution.column_of[p] = b as u8;
             return;
         }
         grow(&mut rows, columns, p, b, o, d);
@@ -326,36 +327,33 @@ fn search(counts: &mut Counts, problem: &Problem, r: usize, solution: &mut Assig
     solution.row_of = own;
 }
 
-// The heaviest matching with its duals for a choice, one search for each row. The counts are lent for the work.
-pub fn solve_without(counts: &mut Counts, matrix: &Matrix, choice: usize) -> Assignment
+// The heaviest matching with its duals for a choice, one search for each row, whatever the solution held. The counts are lent for the work. (The solution
+// is lent too: returned by value it is copied three times, a third of the time of a 2 by 2 matrix.)
+pub fn solve_without(counts: &mut Counts, matrix: &Matrix, choice: usize, solution: &mut Assignment)
     requires { Countable matrix.now.rows counts.old }
-    ensures answer { Answer matrix.now.rows matrix.now.columns (out_of choice (cell matrix.now.gains.now)) result.row_duals result.column_duals result.column_of }
-    ensures owners { OwnersOf matrix.now.rows result.column_of result.row_of }
+    ensures answer { Answer matrix.now.rows matrix.now.columns (out_of choice (cell matrix.now.gains.now)) solution.new.row_duals solution.new.column_duals solution.new.column_of }
+    ensures owners { OwnersOf matrix.now.rows solution.new.column_of solution.new.row_of }
     ensures searches { Searches matrix.now.rows counts.old counts.new }
 {
     let problem = Problem {
         matrix: *matrix,
         choice,
     };
-    let mut solution = Assignment {
-        row_duals: [0; Limits::PLACES],
-        column_duals: [0; Limits::PLACES],
-        column_of: [FREE; Limits::PLACES],
-        row_of: [FREE; Limits::PLACES],
-    };
+    solution.column_duals = [0; Limits::PLACES];
+    solution.column_of = [FREE; Limits::PLACES];
+    solution.row_of = [FREE; Limits::PLACES];
     let k = matrix.rows;
     for r in 0..k {
-        search(counts, &problem, r, &mut solution);
+        search(counts, &problem, r, solution);
     }
-    solution
 }
 
 // The same with all columns, where no one asks for the counts.
-pub fn solve(matrix: &Matrix) -> Assignment
-    ensures { Answer matrix.now.rows matrix.now.columns (cell matrix.now.gains.now) result.row_duals result.column_duals result.column_of }
+pub fn solve(matrix: &Matrix, solution: &mut Assignment)
+    ensures { Answer matrix.now.rows matrix.now.columns (cell matrix.now.gains.now) solution.new.row_duals solution.new.column_duals solution.new.column_of }
 {
     let mut counts = [0; Limits::PAIRS + 1];
-    solve_without(&mut counts, matrix, 0)
+    solve_without(&mut counts, matrix, 0, solution);
 }
 
 // What row i has in the answer for choice c, if any: its column. A matched pair whose gain is 0 is no pair of the answer.
@@ -387,6 +385,14 @@ fn sum_of(a: &WideRow, n: usize) -> u64
 }
 
 impl Assignment {
+    // The empty one, where no row has a column.
+    pub const EMPTY: Assignment = Assignment {
+        row_duals: [0; Limits::PLACES],
+        column_duals: [0; Limits::PLACES],
+        column_of: [FREE; Limits::PLACES],
+        row_of: [FREE; Limits::PLACES],
+    };
+
     // The sum of the duals of the first k rows and l columns: the greatest weight, where they are those of an answer.
     pub fn total(&self, k: usize, l: usize) -> u64
         requires { (k ≤ degree_limit) × (l ≤ degree_limit) × ((x : ℕ) → x < k → at self.now.row_duals x ≤ gain_limit) × ((x : ℕ) → x < l → at self.now.column_duals x ≤ gain_limit) }

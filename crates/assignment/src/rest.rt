@@ -37,7 +37,7 @@ fn distance(counts: &mut Counts, problem: &Problem, r: usize, solution: &Assignm
         }
         columns.joined[b] = true;
         let base = solution.row_duals[o] + d;
-        low = base.min(low);
+        low = low.min(base);
         near = look(counts, problem, z, &mut columns, t, base);
     }
     low

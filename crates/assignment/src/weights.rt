@@ -9,7 +9,7 @@ ghost use Rattle.assignment.specs.Loops.{Greatest};
 ghost use Rattle.assignment.specs.Counts.{Search, Searches, Countable};
 
 use crate::rest::rest_weight;
-use crate::{Counts, FREE, Matrix, Problem, SEARCHES, look_at, solve_without};
+use crate::{Assignment, Counts, FREE, Matrix, Problem, SEARCHES, look_at, solve_without};
 use model::{Gains, Limits};
 
 // A weight for each choice: at 0 that of all columns, at c that without column c - 1.
@@ -82,7 +82,8 @@ fn table_weights(counts: &mut Counts, matrix: &Matrix) -> Weights
 {
     let k = matrix.rows;
     let l = matrix.columns;
-    let solution = solve_without(counts, matrix, 0);
+    let mut solution = Assignment::EMPTY;
+    solve_without(counts, matrix, 0, &mut solution);
     let all = solution.total(k, l);
     let mut t = [all; Limits::PLACES + 1];
     for c in 0..l {

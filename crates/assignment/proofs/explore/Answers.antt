@@ -18,8 +18,8 @@ settle-requires c = room_column c.loop-near.invariant.2 c.loop-near.invariant.0 
 pub bounds-rows-p : goal.bounds-rows-p
 bounds-rows-p c = omega (arith, from_low c.loop-near.invariant.2 c.loop-near.invariant.0 c.loop-near-test.true, c.from-p.ensures)
 
-pub bounds-matching-p : goal.bounds-matching-p
-bounds-matching-p c = omega (arith, from_low c.loop-near.invariant.2 c.loop-near.invariant.0 c.loop-near-test.true, c.from-p.ensures)
+pub bounds-solution-p : goal.bounds-solution-p
+bounds-solution-p c = omega (arith, from_low c.loop-near.invariant.2 c.loop-near.invariant.0 c.loop-near-test.true, c.from-p.ensures)
 
 pub returns-then-o-ge-PLACES : goal.returns-then-o-ge-PLACES
 returns-then-o-ge-PLACES c = (rw c.from-p.ensures (turn_end_column c.loop-near.invariant.2 c.loop-near.invariant.0 c.loop-near-test.true (omega (arith, c.if-o-ge-PLACES.true, c.from-o.ensures)) c.settle.ensures.settled), tries_once c.loop-near.invariant.1)

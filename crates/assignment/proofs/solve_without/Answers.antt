@@ -12,7 +12,7 @@ use Rattle.assignment.proofs.solve_without.Goals as goal
 
 pub loop-r-init : goal.loop-r-init
 loop-r-init c =
-    let S = c.args.matrix.now.sized in (record { rows = refl; columns = refl; matching = refl }, bytes_none _, state_none _ (replicate degree_limit 0) S.rows S.columns, owners_free _ S.rows, searches_none _)
+    let S = c.args.matrix.now.sized in (record { rows = search rules; columns = refl; matching = refl }, bytes_none _, state_none _ _ S.rows S.columns, owners_free _ S.rows, searches_none _)
 
 pub search-requires : goal.search-requires
 search-requires c =
