@@ -2,7 +2,7 @@
 use mathlib.Core.Path.{◌≡◌, refl, sym, ap, subst, ◌∙◌}
 use mathlib.Core.Logic.{⊎_elim, ◌≢◌}
 use mathlib.Core.List.{List, []}
-use Prim.Native.Nat.{ℕ, ◌+◌, ◌-◌, ◌≤◌, ◌<◌, min}
+use Prim.Native.Nat.{ℕ, ◌+◌, ◌≤◌, ◌<◌, min}
 use native.Mathlib.Omega.{arith}
 use native.Mathlib.Nat.{not-suc-le-zero}
 use lib.ListN.{length, get_or, set, length-set, replicate, get_or-replicate}
@@ -10,7 +10,6 @@ use lib.Seq.{set-set, set_out, get_or-set_same, get_or-set_other}
 use borrow.Author.Count.{below_more}
 use borrow.Author.Tests.{eq-eqb, ne_eqb, lt-ltb, le-ltb}
 use Rattle.foundations.specs.Tests.{same?, less?}
-use Rattle.foundations.specs.Sums.{sum, sum_more}
 use Rattle.foundations.specs.Changed.{changed_none, changed_more}
 use Rattle.model.specs.Limits.{degree_limit}
 use Rattle.assignment.specs.Matching.{at, cell, kept_of, out_of, out_kept}

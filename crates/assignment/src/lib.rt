@@ -8,7 +8,7 @@
 pub mod rest;
 pub mod weights;
 
-ghost use Rattle.std.specs.Prelude.{ℕ, ◌+◌, ◌-◌, ◌*◌, ◌<◌, ◌≤◌, ◌≡◌, ◌≢◌, length, replicate, false, IsTrue};
+ghost use Rattle.std.specs.Prelude.{ℕ, ◌+◌, ◌-◌, ◌*◌, ◌<◌, ◌≤◌, ◌≡◌, ◌≢◌, length, replicate, false, IsTrue, MatchOption};
 ghost use Rattle.foundations.specs.Sums.{sum};
 ghost use Rattle.model.specs.Limits.{degree_limit, pair_limit};
 ghost use Rattle.assignment.specs.Matching.{at, cell, kept_of, out_of, gain_limit};
@@ -135,7 +135,7 @@ fn kept(c: usize, j: usize, x: u64) -> u64
 impl<'a> Problem<'a> {
     // The gain of row i with column j, which is looked at once more.
     fn look_at(&self, counts: &mut Counts, i: usize, j: usize) -> u64
-        requires { (length counts.old ≡ pair_limit + 1) × (i < degree_limit) × (j < degree_limit) × (cell counts.old i j < far) }
+        requires { (i < degree_limit) × (j < degree_limit) × (length counts.old ≡ pair_limit + 1) × (cell counts.old i j < far) }
         ensures { (result ≡ out_of self.now.choice (cell self.now.matrix.gains.now) i j) × (counts.new ≡ looked_at i j counts.old) }
     {
         kept(self.choice, j, look_at(counts, self.matrix.gains, i, j))
@@ -168,6 +168,13 @@ pub(crate) fn look_first(
     near
 }
 
+// The row that has the lesser of two distances. (As an `if` in the loop of `look` the compiler makes a branch of it, and 8 by 8 takes two thirds longer.)
+fn source(new: u64, old: u64, t: u8, from: u8) -> u8
+    ensures { result ≡ who_of new old t from }
+{
+    if new < old { t } else { from }
+}
+
 // The distances after row t joined the tree, and the nearest column outside.
 pub(crate) fn look(
     counts: &mut Counts,
@@ -192,10 +199,9 @@ pub(crate) fn look(
     for j in 0..l {
         let s = base + z[j] - problem.look_at(counts, o, j);
         let old = columns.distance[j];
-        let from = columns.from[j];
         let new = old.min(s);
         columns.distance[j] = new;
-        columns.from[j] = if s < old { t } else { from };
+        columns.from[j] = source(s, old, t, columns.from[j]);
         let open = if columns.joined[j] { FAR } else { new };
         near = near.or(j, open);
     }
@@ -308,7 +314,13 @@ fn search(counts: &mut Counts, problem: &Problem, r: usize, solution: &mut Assig
         from: [r as u8; Limits::PLACES],
         joined: [false; Limits::PLACES],
     };
-    let near = look_first(counts, problem, &solution.column_duals, r, &mut columns.distance);
+    let near = look_first(
+        counts,
+        problem,
+        &solution.column_duals,
+        r,
+        &mut columns.distance,
+    );
     let d = near.value;
     if GAIN_LIMIT <= d {
         solution.row_duals[r] = 0;
@@ -359,7 +371,8 @@ pub fn solve(matrix: &Matrix, solution: &mut Assignment)
 // What row i has in the answer for choice c, if any: its column. A matched pair whose gain is 0 is no pair of the answer.
 pub fn partner(g: &Gains, l: usize, c: usize, m: &Row, i: usize) -> Option<usize>
     requires { (l ≤ degree_limit) × (i < degree_limit) }
-    ensures { Partner l (out_of c (cell g.now)) (at m.now) i (place_or result) }
+    ensures partner { Partner l (out_of c (cell g.now)) (at m.now) i (place_or result) }
+    ensures below { MatchOption result (Unit {0}) (λ j. j < l) }
 {
     let j = usize::from(m[i]);
     if l <= j {

@@ -4,7 +4,7 @@ use mathlib.Core.Path.{refl}
 use native.Mathlib.Omega.{arith}
 use Rattle.assignment.specs.Marks.{marks_none, marks_set}
 use Rattle.assignment.proofs.Counting.{tries_start, tries_once}
-use Rattle.assignment.proofs.Turns.{mark_here, turn_start, room_row, a_low, turn_end_row, b_low, from_low, room_column, turn_end_column, o_countable, base_small, columns_small, fewer, turn_grow, tries_grow}
+use Rattle.assignment.proofs.Turns.{mark_here, turn_start, room_row, turn_end_row, b_low, from_low, room_column, turn_end_column, o_countable, base_small, columns_small, fewer, turn_grow, tries_grow}
 use Rattle.assignment.proofs.explore.Goals as goal
 
 pub loop-near-init : goal.loop-near-init

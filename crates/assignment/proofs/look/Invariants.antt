@@ -1,5 +1,5 @@
 -- `assignment::look` meets its contract. The invariant is `Looked` of the columns passed, and the row tried so far. Assumes nothing.
-use Prim.Native.Nat.{◌+◌, ◌-◌, ◌≤◌}
+use Prim.Native.Nat.{◌+◌, ◌-◌}
 use Rattle.assignment.specs.Loops.{Looked}
 use Rattle.assignment.specs.Matching.{at, cell, out_of}
 use Rattle.assignment.specs.Counts.{Tried}

@@ -1,5 +1,5 @@
 -- `assignment::look_first` meets its contract. The invariant is `First` of the columns passed, and the row tried so far. Assumes nothing.
-use Prim.Native.Nat.{◌+◌, ◌-◌, ◌≤◌}
+use Prim.Native.Nat.{◌+◌, ◌-◌}
 use Rattle.assignment.specs.Loops.{First}
 use Rattle.assignment.specs.Matching.{at, cell, out_of, gain_limit}
 use Rattle.assignment.specs.Counts.{Tried}

@@ -1,5 +1,4 @@
 -- `assignment::owners` meets its contract. The invariant is `OwnersOf` of the rows passed. Assumes nothing.
-use Prim.Native.Nat.{◌-◌, ◌≤◌}
 use Rattle.assignment.specs.Loops.{OwnersOf}
 use Rattle.assignment.proofs.owners.Given as goal
 

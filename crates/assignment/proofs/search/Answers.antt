@@ -1,13 +1,8 @@
 -- `assignment::search` meets its contract. The three ends are those of `Roots`. Assumes nothing.
 use mathlib.Core.Path.{refl}
-use Prim.Native.Nat.{◌<◌}
-use Rattle.model.specs.Limits.{degree_limit}
-use native.Mathlib.Omega.{arith}
 use Rattle.assignment.specs.Matching.{gain_limit}
 use Rattle.assignment.proofs.Duality.{column_limit}
-use Rattle.assignment.proofs.Leaves.{owners_put}
-use Rattle.assignment.proofs.Roots.{pending_none, rooted, end_covered, near_low, end_free, end_explored, sized_out}
-use Rattle.assignment.proofs.Counting.{counted_countable, search_row, search_rows, others_countable}
+use Rattle.assignment.proofs.Roots.{rooted, end_covered, end_free, end_explored, sized_out}
 use Rattle.assignment.proofs.search.Goals as goal
 
 pub look_first-near-requires-clause-dist_len : goal.look_first-near-requires-clause-dist_len

@@ -1,9 +1,7 @@
 -- `assignment::solve_without` meets its contract. The invariant: the rows below r are finished, by r searches. Assumes nothing.
 use mathlib.Core.Path.{refl}
 use native.Mathlib.Omega.{arith}
-use lib.ListN.{replicate}
 use borrow.Author.Rules.{rules}
-use Rattle.model.specs.Limits.{degree_limit}
 use Rattle.assignment.specs.Counts.{countable_less, countable_after, searches_none, searches_one, searches_both, searches_few}
 use Rattle.assignment.proofs.Leaves.{owners_free}
 use Rattle.assignment.proofs.Turns.{bytes_none}

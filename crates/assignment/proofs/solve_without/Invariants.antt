@@ -1,5 +1,4 @@
 -- `assignment::solve_without` meets its contract. The invariant: the rows below r are finished, by r searches. Assumes nothing.
-use Prim.Native.Nat.{◌-◌, ◌≤◌}
 use Rattle.assignment.specs.State.{State, Lengths, Bytes}
 use Rattle.assignment.specs.Matching.{at, cell, out_of}
 use Rattle.assignment.specs.Counts.{Searches}

@@ -1,6 +1,6 @@
 -- `assignment::sum_of` meets its contract. The invariant: what is added and what is left make the sum. Assumes nothing.
 use mathlib.Core.Path.{◌≡◌}
-use Prim.Native.Nat.{◌+◌, ◌*◌, ◌≤◌}
+use Prim.Native.Nat.{◌*◌, ◌≤◌}
 use Rattle.foundations.specs.Sums.{sum}
 use Rattle.assignment.specs.Matching.{at, gain_limit}
 use Rattle.assignment.proofs.sum_of.Given as goal

@@ -1,13 +1,11 @@
 -- `distance` meets its contract. The invariant is `Reaching`; the columns outside the tree become fewer with each turn. Assumes nothing.
 use mathlib.Core.Path.{refl, ◌∙◌}
-use Prim.Native.Nat.{◌<◌}
-use Rattle.model.specs.Limits.{degree_limit}
 use native.Mathlib.Omega.{arith}
 use Rattle.assignment.specs.Marks.{marks_none, marks_set}
 use Rattle.assignment.proofs.Leaves.{min_less}
 use Rattle.assignment.proofs.Duality.{column_limit}
 use Rattle.assignment.proofs.Counting.{counted_countable}
-use Rattle.assignment.proofs.Distances.{reaching_start, reached_row, reached_search, reach_low, reached_column, reach_base, reach_columns, reach_countable, reach_fewer, reach_grow}
+use Rattle.assignment.proofs.Distances.{reaching_start, reached_row, reached_search, reached_column, reach_base, reach_columns, reach_countable, reach_fewer, reach_grow}
 use Rattle.assignment.proofs.rest.distance.Goals as goal
 
 pub overflow_add-counts : goal.overflow_add-counts

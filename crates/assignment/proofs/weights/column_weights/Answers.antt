@@ -1,6 +1,6 @@
 -- `column_weights` meets its contract. Assumes nothing.
 use native.Mathlib.Omega.{arith}
-use Rattle.assignment.specs.Counts.{countable_less, searches_one, searches_few}
+use Rattle.assignment.specs.Counts.{searches_one, searches_few}
 use Rattle.assignment.proofs.Choices.{column_weights_of}
 use Rattle.assignment.proofs.weights.column_weights.Goals as goal
 

@@ -1,6 +1,5 @@
 -- `row_weights` meets its contract. The invariant: the two greatest gains of the columns passed, and the row tried so far. Assumes nothing.
 use native.Mathlib.Omega.{arith}
-use borrow.Author.Rules.{rules}
 use Rattle.assignment.proofs.Counting.{counted_countable, search_row, tried_more}
 use Rattle.assignment.proofs.Choices.{two_first, two_rest, two_end, single_of}
 use Rattle.assignment.proofs.weights.row_weights.Goals.{then-d-x, else-d-x}

@@ -1,5 +1,5 @@
 -- `row_weights` meets its contract. The invariant: the two greatest gains of the columns passed, and the row tried so far. Assumes nothing.
-use Prim.Native.Nat.{◌-◌, ◌≤◌, ◌<◌}
+use Prim.Native.Nat.{◌<◌}
 use Rattle.model.specs.Limits.{degree_limit}
 use Rattle.assignment.specs.Matching.{cell}
 use Rattle.assignment.specs.Loops.{GreatestTwo}

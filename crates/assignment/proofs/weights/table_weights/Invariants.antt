@@ -1,5 +1,4 @@
 -- `table_weights` meets its contract. The invariant: the weights up to choice c, by c further searches at most. Assumes nothing.
-use Prim.Native.Nat.{◌-◌, ◌≤◌}
 use Rattle.assignment.specs.Matching.{cell}
 use Rattle.assignment.specs.Counts.{Searches}
 use Rattle.assignment.proofs.Choices.{Filled}
