@@ -3,7 +3,7 @@ use mathlib.Core.Path.{◌≡◌, refl, sym, ap, subst, ◌∙◌}
 use mathlib.Core.Logic.{⊎_elim, ◌≢◌}
 use mathlib.Core.Bool.{cond}
 use mathlib.Core.List.{List}
-use Prim.Native.Nat.{ℕ, zero, suc, ◌+◌, ◌-◌, ◌≤◌, ◌<◌}
+use Prim.Native.Nat.{ℕ, zero, suc, ◌+◌, ◌-◌, ◌≤◌, ◌<◌, max}
 use native.Mathlib.Omega.{arith}
 use native.Mathlib.Nat.{not-suc-le-zero}
 use lib.Dec.{ltb, eqb}
@@ -16,7 +16,7 @@ use Rattle.foundations.specs.Sums.{sum, sum_zero, sum_ext}
 use Rattle.model.specs.Limits.{degree_limit}
 use Rattle.assignment.specs.Matching.{at, out_of, out_yes, out_no, gained, weight}
 use Rattle.assignment.specs.State.{Solved, Total, Heaviest, SingleOf, WeightsOf}
-use Rattle.assignment.specs.Loops.{who_of, second_of, OwnersOf, Greatest, GreatestTwo}
+use Rattle.assignment.specs.Loops.{OwnersOf, Greatest, GreatestTwo}
 use Rattle.assignment.proofs.Roots.{out_none}
 
 -- ---- the greatest
@@ -24,20 +24,11 @@ use Rattle.assignment.proofs.Roots.{out_none}
 pub greatest_none : (f : ℕ → ℕ) (b : ℕ) → Greatest 0 f b 0
 greatest_none f b = record { most = λ x h. absurd (not-suc-le-zero h); found = λ h. absurd (omega arith) }
 
-pub greatest_more : {j b d b' d' : ℕ} {f : ℕ → ℕ} (x : ℕ) → Greatest j f b d → x ≡ f j → b' ≡ who_of d x j b → d' ≡ who_of d x x d → Greatest (j + 1) f b' d'
-greatest_more {j} {b} {d} {b'} {d'} {f} x G ex eb ed = ⊎_elim more less (less? d x)
-  where
-    more : d < x → Greatest (j + 1) f b' d'
-    more h =
-        let p : b' ≡ j = eb ∙ rw (lt-ltb d x h) in
-        let q : d' ≡ x = ed ∙ rw (lt-ltb d x h) in
-        record { most = below_more (λ (i : ℕ). f i ≤ d') j (λ i l. omega (arith, G.most i l)) (omega arith); found = λ _. (omega arith, ap f p ∙ sym ex ∙ sym q) }
-
-    less : x ≤ d → Greatest (j + 1) f b' d'
-    less h =
-        let p : b' ≡ b = eb ∙ rw (le-ltb d x h) in
-        let q : d' ≡ d = ed ∙ rw (le-ltb d x h) in
-        record { most = below_more (λ (i : ℕ). f i ≤ d') j (λ i l. omega (arith, G.most i l)) (omega arith); found = λ u. let w = G.found (omega arith) in (omega (arith, w.0), ap f p ∙ w.1 ∙ sym q) }
+pub greatest_more : {j d : ℕ} {f : ℕ → ℕ} (x : ℕ) → (b : ℕ) × Greatest j f b d → x ≡ f j → (b : ℕ) × Greatest (j + 1) f b (max x d)
+greatest_more {j} {d} {f} x (b, G) ex = ⊎_elim
+    (λ h. (j, record { most = below_more (λ (i : ℕ). f i ≤ max x d) j (λ i l. omega (arith, G.most i l)) (omega arith); found = λ _. (omega arith, omega arith) }))
+    (λ h. (b, record { most = below_more (λ (i : ℕ). f i ≤ max x d) j (λ i l. omega (arith, G.most i l)) (omega arith); found = λ u. let w = G.found (omega arith) in (omega (arith, w.0), omega (arith, w.1)) }))
+    (less? d x)
 
 pub greatest_end : {j l b d : ℕ} {f : ℕ → ℕ} → Greatest j f b d → l ≤ j → j ≤ l → Greatest l f b d
 greatest_end {j} {l} {b} {d} {f} G p q = subst (λ (x : ℕ). Greatest x f b d) (let e : j ≡ l = omega arith in e) G
@@ -47,51 +38,26 @@ greatest_end {j} {l} {b} {d} {f} G p q = subst (λ (x : ℕ). Greatest x f b d) 
 pub two_none : (f : ℕ → ℕ) (b : ℕ) → GreatestTwo 0 f b 0 0
 two_none f b = record { most = λ x h. absurd (not-suc-le-zero h); found = λ h. absurd (omega arith); next = λ x h. absurd (not-suc-le-zero h); other = λ h. absurd (omega arith) }
 
-pub two_more : {j b d e b' d' e' : ℕ} {f : ℕ → ℕ} (x : ℕ) → GreatestTwo j f b d e → x ≡ f j → e' ≡ second_of x d e → b' ≡ who_of d x j b → d' ≡ who_of d x x d → GreatestTwo (j + 1) f b' d' e'
-two_more {j} {b} {d} {e} {b'} {d'} {e'} {f} x G ex ee eb ed = ⊎_elim first (λ h. ⊎_elim (second h) (third h) (less? e x)) (less? d x)
-  where
-    first : d < x → GreatestTwo (j + 1) f b' d' e'
-    first h =
-        let p : b' ≡ j = eb ∙ rw (lt-ltb d x h) in
-        let q : d' ≡ x = ed ∙ rw (lt-ltb d x h) in
-        let s : e' ≡ d = ee ∙ rw (lt-ltb d x h) in
-        record {
-          most = below_more (λ (i : ℕ). f i ≤ d') j (λ i l. omega (arith, G.most i l)) (omega arith);
-          found = λ _. (omega arith, ap f p ∙ sym ex ∙ sym q);
-          next = below_more (λ (i : ℕ). i ≢ b' → f i ≤ e') j (λ i l n. omega (arith, G.most i l)) (λ n. absurd (n (sym p)));
-          other = λ u. let w = G.found (omega arith) in (b, omega (arith, w.0), (λ n. omega (arith, n, w.0)), w.1 ∙ sym s);
-        }
+-- one that is greater than all before it
+pub two_first : {j b d e : ℕ} {f : ℕ → ℕ} (x : ℕ) → GreatestTwo j f b d e → x ≡ f j → d < x → GreatestTwo (j + 1) f j x d
+two_first {j} {b} {d} {e} {f} x G ex h = record {
+  most = below_more (λ (i : ℕ). f i ≤ x) j (λ i l. omega (arith, G.most i l)) (omega arith);
+  found = λ _. (omega arith, sym ex);
+  next = below_more (λ (i : ℕ). i ≢ j → f i ≤ d) j (λ i l n. G.most i l) (λ n. absurd (n refl));
+  other = λ u. let w = G.found u in (b, omega (arith, w.0), (λ n. omega (arith, n, w.0)), w.1);
+}
 
-    second : x ≤ d → e < x → GreatestTwo (j + 1) f b' d' e'
-    second h m =
-        let p : b' ≡ b = eb ∙ rw (le-ltb d x h) in
-        let q : d' ≡ d = ed ∙ rw (le-ltb d x h) in
-        let s : e' ≡ x = ee ∙ rw (le-ltb d x h) (rw (lt-ltb e x m)) in
-        let w = G.found (omega arith) in
-        record {
-          most = below_more (λ (i : ℕ). f i ≤ d') j (λ i l. omega (arith, G.most i l)) (omega arith);
-          found = λ _. (omega (arith, w.0), ap f p ∙ w.1 ∙ sym q);
-          next = below_more (λ (i : ℕ). i ≢ b' → f i ≤ e') j (λ i l n. omega (arith, G.next i l (λ a. n (a ∙ sym p)))) (λ n. omega arith);
-          other = λ u. (j, omega arith, (λ n. omega (arith, n, w.0)), sym ex ∙ sym s);
-        }
-
-    third : x ≤ d → x ≤ e → GreatestTwo (j + 1) f b' d' e'
-    third h m =
-        let p : b' ≡ b = eb ∙ rw (le-ltb d x h) in
-        let q : d' ≡ d = ed ∙ rw (le-ltb d x h) in
-        let s : e' ≡ e = ee ∙ rw (le-ltb d x h) (rw (le-ltb e x m)) in
-        record {
-          most = below_more (λ (i : ℕ). f i ≤ d') j (λ i l. omega (arith, G.most i l)) (omega arith);
-          found = λ u. let w = G.found (omega arith) in (omega (arith, w.0), ap f p ∙ w.1 ∙ sym q);
-          next = below_more (λ (i : ℕ). i ≢ b' → f i ≤ e') j (λ i l n. omega (arith, G.next i l (λ a. n (a ∙ sym p)))) (λ n. omega arith);
-          other = λ u. let w = G.other (omega arith) in (w.0, omega (arith, w.1), (λ n. w.2 (n ∙ p)), w.3 ∙ sym s);
-        }
-
-pub who_low : (x d j b : ℕ) {b' n : ℕ} → b' ≡ who_of d x j b → j < n → b < n → b' < n
-who_low x d j b {b'} {n} e p q = ⊎_elim
-    (λ h. let w : b' ≡ j = e ∙ rw (lt-ltb d x h) in omega arith)
-    (λ h. let w : b' ≡ b = e ∙ rw (le-ltb d x h) in omega arith)
-    (less? d x)
+-- one that is not
+pub two_rest : {j b d e : ℕ} {f : ℕ → ℕ} (x : ℕ) → GreatestTwo j f b d e → x ≡ f j → x ≤ d → GreatestTwo (j + 1) f b d (max x e)
+two_rest {j} {b} {d} {e} {f} x G ex h = record {
+  most = below_more (λ (i : ℕ). f i ≤ d) j G.most (omega arith);
+  found = λ u. let w = G.found u in (omega (arith, w.0), w.1);
+  next = below_more (λ (i : ℕ). i ≢ b → f i ≤ max x e) j (λ i l n. omega (arith, G.next i l n)) (λ n. omega arith);
+  other = λ u. ⊎_elim
+      (λ m. let w = G.found (omega arith) in (j, omega arith, (λ n. omega (arith, n, w.0)), omega arith))
+      (λ m. let w = G.other (omega arith) in (w.0, omega (arith, w.1), w.2, omega (arith, w.3)))
+      (less? e x);
+}
 
 pub two_end : {j l b d e : ℕ} {f : ℕ → ℕ} → GreatestTwo j f b d e → l ≤ j → j ≤ l → GreatestTwo l f b d e
 two_end {j} {l} {b} {d} {e} {f} G p q = subst (λ (x : ℕ). GreatestTwo x f b d e) (let w : j ≡ l = omega arith in w) G

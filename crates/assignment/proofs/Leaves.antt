@@ -2,7 +2,7 @@
 use mathlib.Core.Path.{◌≡◌, refl, sym, ap, subst, ◌∙◌}
 use mathlib.Core.Logic.{⊎_elim, ◌≢◌}
 use mathlib.Core.List.{List, []}
-use Prim.Native.Nat.{ℕ, ◌+◌, ◌-◌, ◌≤◌, ◌<◌}
+use Prim.Native.Nat.{ℕ, ◌+◌, ◌≤◌, ◌<◌, min}
 use native.Mathlib.Omega.{arith}
 use native.Mathlib.Nat.{not-suc-le-zero}
 use lib.ListN.{length, get_or, set, length-set, replicate, get_or-replicate}
@@ -10,7 +10,6 @@ use lib.Seq.{set-set, set_out, get_or-set_same, get_or-set_other}
 use borrow.Author.Count.{below_more}
 use borrow.Author.Tests.{eq-eqb, ne_eqb, lt-ltb, le-ltb}
 use Rattle.foundations.specs.Tests.{same?, less?}
-use Rattle.foundations.specs.Sums.{sum, sum_more}
 use Rattle.foundations.specs.Changed.{changed_none, changed_more}
 use Rattle.model.specs.Limits.{degree_limit}
 use Rattle.assignment.specs.Matching.{at, cell, kept_of, out_of, out_kept}
@@ -29,6 +28,10 @@ set_within l o q i x =
     (λ h. ap (λ (r : List ℕ). set l o (set r i x)) (get_or-set_same l o q [] h))
     (λ h. set_out l o (set (get_or (set l o q) o []) i x) h ∙ sym (set_out l o (set q i x) h))
     (less? o (length l))
+
+-- std's minimum is the definitions'
+pub min_less : (new old : ℕ) → min old new ≡ less_of new old
+min_less new old = ⊎_elim (λ h. rw (lt-ltb new old h) (omega arith)) (λ h. rw (le-ltb new old h) (omega arith)) (less? new old)
 
 -- ---- the nearest column
 
@@ -88,10 +91,10 @@ first_end {F} {s₀} {s} {j} {l} {b} {d} P p q = subst (λ (x : ℕ). First x F 
 pub looked_none : (t : ℕ) (F C : ℕ → ℕ) (s f : List ℕ) → Looked 0 t F C s f s f degree_limit far
 looked_none t F C s f = record { distances = changed_none _ s; sources = changed_none _ f; nearest = nearest_none _ _ degree_limit }
 
-pub looked_more : {t : ℕ} {F C : ℕ → ℕ} {s₀ f₀ s f : List ℕ} (v u o : ℕ) {j b d b' d' : ℕ} → Looked j t F C s₀ f₀ s f b d → j < length s₀ → j < length f₀ → v ≡ less_of (F j) (at s j) → u ≡ who_of (F j) (at s j) t (at f j) → o ≡ open_of (C j) v → b' ≡ who_of o d j b → d' ≡ less_of o d → Looked (j + 1) t F C s₀ f₀ (set s j v) (set f j u) b' d'
-looked_more {t} {F} {C} {s₀} {f₀} {s} {f} v u o {j} P h h' ev eu eo eb ed = record {
-  distances = changed_more P.distances h ev;
-  sources = changed_more P.sources h' (eu ∙ ap (λ (x : ℕ). who_of (F j) x t (at f j)) (P.distances.rest j (omega arith)));
+pub looked_more : {t : ℕ} {F C : ℕ → ℕ} {s₀ f₀ s f : List ℕ} (w v u o : ℕ) {j b d b' d' : ℕ} → w ≡ F j → Looked j t F C s₀ f₀ s f b d → j < length s₀ → j < length f₀ → v ≡ min (at s j) w → u ≡ who_of w (at s j) t (at f j) → o ≡ open_of (C j) v → b' ≡ who_of o d j b → d' ≡ less_of o d → Looked (j + 1) t F C s₀ f₀ (set s j v) (set f j u) b' d'
+looked_more {t} {F} {C} {s₀} {f₀} {s} {f} w v u o {j} ew P h h' ev eu eo eb ed = record {
+  distances = changed_more P.distances h (ev ∙ min_less w (at s j) ∙ ap (λ (x : ℕ). less_of x (at s j)) ew);
+  sources = changed_more P.sources h' (eu ∙ ap (λ (x : ℕ). who_of x (at s j) t (at f j)) ew ∙ ap (λ (x : ℕ). who_of (F j) x t (at f j)) (P.distances.rest j (omega arith)));
   nearest = nearest_more s v o P.nearest (omega (arith, P.distances.size)) eo eb ed;
 }
 
@@ -198,13 +201,3 @@ owners_drop {k} {r} {b} {m} {own} P few long hr hb e alone = record {
 
     mine : at (set m r degree_limit) r ≡ degree_limit
     mine = get_or-set_same m r degree_limit 0 (omega arith)
-
--- ---- a sum that counts down
-
--- the first i are left to add
-pub left_more : (i n s : ℕ) (f : ℕ → ℕ) → 0 < i → s + sum i f ≡ sum n f → s + f (i - 1) + sum (i - 1) f ≡ sum n f
-left_more i n s f h e = let d : i ≡ i - 1 + 1 = omega arith in omega (arith, ap (λ (x : ℕ). sum x f) d, sum_more (i - 1) f)
-
-pub left_none : (i n s : ℕ) (f : ℕ → ℕ) → i ≤ 0 → s + sum i f ≡ sum n f → s ≡ sum n f
-unfolding sum
-left_none i n s f h e = let d : i ≡ 0 = omega arith in omega (arith, ap (λ (x : ℕ). sum x f) d)

@@ -4,3 +4,4 @@ pub mod State
 pub mod Loops
 pub mod Tree
 pub mod Counts
+pub mod Marks

@@ -15,10 +15,6 @@ less_of new old = cond (ltb new old) new old
 abbrev pub who_of : ℕ → ℕ → ℕ → ℕ → ℕ
 who_of new old t f = cond (ltb new old) t f
 
--- the second greatest of x, d and e, where d is not less than e
-abbrev pub second_of : ℕ → ℕ → ℕ → ℕ
-second_of x d e = cond (ltb d x) d (who_of e x x e)
-
 -- a column of the tree is not chosen
 abbrev pub open_of : ℕ → ℕ → ℕ
 open_of c x = cond (eqb c 1) far x

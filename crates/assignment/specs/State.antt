@@ -1,5 +1,5 @@
 -- The state between searches, for any set of finished rows, and the solution, in which every row is finished. Assumes nothing.
-use Rattle.std.specs.Prelude.{◌≡◌, ◌⊎◌, Bool, true, false, cond, not, ◌||◌, List, ℕ, ◌+◌, ◌≤◌, ◌<◌, eqb, length, replicate}
+use Rattle.std.specs.Prelude.{◌≡◌, ◌⊎◌, Bool, true, false, cond, not, ◌||◌, List, ℕ, ◌+◌, ◌≤◌, ◌<◌, eqb, length, replicate, Option, Some, None}
 use Rattle.foundations.specs.Sums.{sum}
 use Rattle.model.specs.Limits.{degree_limit}
 use Rattle.assignment.specs.Matching.{at, out_of, gain_limit, weight, Injective, Has, best, all, gained}
@@ -102,6 +102,11 @@ pub record WeightsOf (k l : ℕ) (g : ℕ → ℕ → ℕ) (t : List ℕ) : Type
 pub record Total (k l : ℕ) (y z : ℕ → ℕ) (r : ℕ) : Type 0 where
   pub equal : r ≡ sum k y + sum l z
   pub greatest : (g : ℕ → ℕ → ℕ) (m : ℕ → ℕ) → Solved k l g y z m → r ≡ best l g k all
+
+-- a place, or `degree_limit` for none
+abbrev pub place_or : Option ℕ → ℕ
+place_or (Some j) = j
+place_or None = degree_limit
 
 -- r is what row i has in the answer: its column if the gain is not 0, else none, which is `degree_limit`
 pub record Partner (l : ℕ) (g : ℕ → ℕ → ℕ) (m : ℕ → ℕ) (i r : ℕ) : Type 0 where

@@ -1,29 +1,29 @@
 //! The heaviest matching of rows with columns, at most `PLACES` each, by path searches: one search for each row, and in a search each pair of a row
 //! and a column is looked at once at most. Searches and looks are counted. Gains are at `row * PLACES + column`, none above `GAIN_LIMIT`. The
-//! duals `y` of rows and `z` of columns show that no matching is heavier: their sums cover every gain, and the sum of all is the matching's
-//! weight. `m` has the column of each row, or `FREE`. A choice c leaves a column out: none for 0, else column c - 1. `weights` has the weight for
-//! each choice, and `rest` that without one column. The definitions are in `specs/`.
+//! duals of rows and of columns show that no matching is heavier: their sums cover every gain, and the sum of all is the matching's
+//! weight. A choice c leaves a column out: none for 0, else column c - 1. `weights` has the weight for each choice, and `rest` that without one
+//! column. The definitions are in `specs/`; they call the row duals y, the column duals z, the column of each row m and the row of each column own.
 #![tactic(auto)]
 
 pub mod rest;
 pub mod weights;
 
-ghost use Rattle.std.specs.Prelude.{ℕ, ◌+◌, ◌-◌, ◌*◌, ◌<◌, ◌≤◌, ◌≡◌, ◌≢◌, length};
+ghost use Rattle.std.specs.Prelude.{ℕ, ◌+◌, ◌-◌, ◌*◌, ◌<◌, ◌≤◌, ◌≡◌, ◌≢◌, length, replicate, false, IsTrue, MatchOption};
 ghost use Rattle.foundations.specs.Sums.{sum};
-ghost use Rattle.foundations.specs.Changed.{Changed};
 ghost use Rattle.model.specs.Limits.{degree_limit, pair_limit};
 ghost use Rattle.assignment.specs.Matching.{at, cell, kept_of, out_of, gain_limit};
-ghost use Rattle.assignment.specs.State.{Sized, Lengths, Bytes, Blank, Pending, Answer, Partner, Total};
-ghost use Rattle.assignment.specs.Loops.{far, less_of, who_of, open_of, row_end, column_end, OwnersOf, Looked, First, Room, Settled};
+ghost use Rattle.assignment.specs.State.{Sized, Lengths, Bytes, Pending, Answer, Partner, Total, place_or};
+ghost use Rattle.assignment.specs.Loops.{far, less_of, who_of, row_end, OwnersOf, Looked, First, Room, Settled};
 ghost use Rattle.assignment.specs.Tree.{Grown, Rooted, Ended};
 ghost use Rattle.assignment.specs.Counts.{looked_at, Tried, RowCountable, Once, Search, Searches, Countable};
+ghost use Rattle.assignment.specs.Marks.{mark, marks};
 
 use model::{Gains, Limits, Row, WideRow};
 
 // No gain is greater: 2 ^ 48.
 pub const GAIN_LIMIT: u64 = 281474976710656;
 
-// What stands for the column of a row that has none, and for the row of a column that has none.
+// What stands for the column of a row that has none, and for the row of a column that has none. (The definitions have such rows of bytes, as `OwnersOf`.)
 pub const FREE: u8 = Limits::DEGREE;
 
 // How often each pair of a row and a column was looked at, at row * PLACES + column, and at SEARCHES how many path searches
@@ -33,52 +33,70 @@ pub type Counts = [u64; Limits::PAIRS + 1];
 pub const SEARCHES: usize = Limits::PAIRS;
 
 // Greater than every distance.
-const FAR: u64 = 18446744073709551615;
+const FAR: u64 = u64::MAX;
 
-// The nearest column outside a search's tree, or PLACES and `FAR`.
-#[derive(Drop)]
-pub(crate) struct Near {
-    pub(crate) column: usize,
-    pub(crate) distance: u64,
+// The gains of some rows with some columns, none above the limit.
+#[derive(Clone, Copy)]
+pub struct Matrix<'a> {
+    pub gains: &'a Gains,
+    pub rows: usize,
+    pub columns: usize,
+    pub ghost sized: { Sized rows columns (cell gains.now) },
 }
 
-pub(crate) fn place(x: u8) -> usize
-    ensures { result ≡ x }
-{
-    x as usize
+// The same without the column that the choice leaves out.
+#[derive(Clone, Copy)]
+pub(crate) struct Problem<'a> {
+    pub(crate) matrix: Matrix<'a>,
+    pub(crate) choice: usize,
 }
 
-pub(crate) fn byte(x: usize) -> u8
-    requires { x < degree_limit }
-    ensures { result ≡ x }
-{
-    x as u8
+// A matching and the duals: those of the rows and of the columns, the column of each row and the row of each column, or FREE.
+#[derive(Clone, Copy)]
+pub struct Assignment {
+    pub row_duals: WideRow,
+    pub column_duals: WideRow,
+    pub column_of: Row,
+    pub row_of: Row,
 }
 
-// The lesser of two distances, then the row and the column that have it.
-pub(crate) fn less_of(new: u64, old: u64) -> u64
-    ensures { result ≡ less_of new old }
-{
-    if new < old { new } else { old }
+// Whether each row, or each column, has joined a search's tree.
+type Marks = [bool; Limits::PLACES];
+
+// The columns in a search: how far each is from the tree, the tree row that has this distance, and whether it joined.
+#[derive(Clone, Copy)]
+pub(crate) struct Columns {
+    pub(crate) distance: WideRow,
+    pub(crate) from: Row,
+    pub(crate) joined: Marks,
 }
 
-fn who_of(new: u64, old: u64, t: u8, f: u8) -> u8
-    ensures { result ≡ who_of new old t f }
-{
-    if new < old { t } else { f }
+// The rows in a search: at which distance each joined, whether it did, and the matching in which it is free in place of the root.
+#[derive(Clone, Copy)]
+struct Rows {
+    distance: WideRow,
+    joined: Marks,
+    alternative: [Row; Limits::PLACES],
 }
 
-pub(crate) fn place_of(new: u64, old: u64, j: usize, b: usize) -> usize
-    ensures { result ≡ who_of new old j b }
-{
-    if new < old { j } else { b }
+// The least of some values and the place that has it. Of none: `FAR`, which is where the minimum begins, at `PLACES`. (An Option would add a case to each comparison.)
+#[derive(Clone, Copy)]
+pub(crate) struct Least {
+    pub(crate) place: usize,
+    pub(crate) value: u64,
 }
 
-// A column's distance for the choice of the nearest: those of the tree are out.
-fn open_of(c: u8, x: u64) -> u64
-    ensures { result ≡ open_of c x }
-{
-    if c == 1 { FAR } else { x }
+impl Least {
+    // This one, or another that is less.
+    pub(crate) fn or(self, place: usize, value: u64) -> Least
+        ensures { (result.place ≡ who_of value self.value place self.place) × (result.value ≡ less_of value self.value) }
+    {
+        if value < self.value {
+            Least { place, value }
+        } else {
+            self
+        }
+    }
 }
 
 // The row that has each column, or FREE.
@@ -87,13 +105,11 @@ fn owners(m: &Row, k: usize) -> Row
     ensures { OwnersOf k m.now result }
 {
     let mut own = [FREE; Limits::PLACES];
-    let mut i = 0;
-    while i < k {
-        let c = place(m[i]);
+    for i in 0..k {
+        let c = usize::from(m[i]);
         if c < Limits::PLACES {
-            own[c] = byte(i);
+            own[c] = i as u8;
         }
-        i += 1;
     }
     own
 }
@@ -116,318 +132,257 @@ fn kept(c: usize, j: usize, x: u64) -> u64
     if j + 1 == c { 0 } else { x }
 }
 
+impl<'a> Problem<'a> {
+    // The gain of row i with column j, which is looked at once more.
+    fn look_at(&self, counts: &mut Counts, i: usize, j: usize) -> u64
+        requires { (i < degree_limit) × (j < degree_limit) × (length counts.old ≡ pair_limit + 1) × (cell counts.old i j < far) }
+        ensures { (result ≡ out_of self.now.choice (cell self.now.matrix.gains.now) i j) × (counts.new ≡ looked_at i j counts.old) }
+    {
+        kept(self.choice, j, look_at(counts, self.matrix.gains, i, j))
+    }
+}
+
 // The distance of each column from row r at the greatest dual, and the nearest column.
 pub(crate) fn look_first(
     counts: &mut Counts,
-    dist: &mut WideRow,
-    g: &Gains,
+    problem: &Problem,
     z: &WideRow,
-    l: usize,
-    c: usize,
     r: usize,
-) -> Near
-    requires dist_len { (length dist.old ≡ degree_limit) × (l ≤ degree_limit) × (r < degree_limit) × ((x : ℕ) → x < l → (at z.now x ≤ gain_limit) × (out_of c (cell g.now) r x ≤ gain_limit)) }
+    dist: &mut WideRow,
+) -> Least
+    requires dist_len { (length dist.old ≡ degree_limit) × (r < problem.now.matrix.rows) × ((x : ℕ) → x < problem.now.matrix.columns → at z.now x ≤ gain_limit) }
     requires row_countable { RowCountable r counts.old }
-    ensures { (First l (λ x. gain_limit + at z.now x - out_of c (cell g.now) r x) dist.old dist.new result.column result.distance) × (Tried r l counts.old counts.new) }
+    ensures { (First problem.now.matrix.columns (λ x. gain_limit + at z.now x - out_of problem.now.choice (cell problem.now.matrix.gains.now) r x) dist.old dist.new result.place result.value) × (Tried r problem.now.matrix.columns counts.old counts.new) }
 {
-    let mut b = Limits::PLACES;
-    let mut d = FAR;
-    let mut j = 0;
-    while j < l {
-        let x = kept(c, j, look_at(counts, g, r, j));
+    let mut near = Least {
+        place: Limits::PLACES,
+        value: FAR,
+    };
+    let l = problem.matrix.columns;
+    for j in 0..l {
+        let x = problem.look_at(counts, r, j);
         let s = GAIN_LIMIT + z[j] - x;
         dist[j] = s;
-        b = place_of(s, d, j, b);
-        d = less_of(s, d);
-        j += 1;
+        near = near.or(j, s);
     }
-    Near {
-        column: b,
-        distance: d,
-    }
+    near
+}
+
+// The row that has the lesser of two distances. (As an `if` in the loop of `look` the compiler makes a branch of it, and 8 by 8 takes two thirds longer.)
+fn source(new: u64, old: u64, t: u8, from: u8) -> u8
+    ensures { result ≡ who_of new old t from }
+{
+    if new < old { t } else { from }
 }
 
 // The distances after row t joined the tree, and the nearest column outside.
 pub(crate) fn look(
     counts: &mut Counts,
-    dist: &mut WideRow,
-    from: &mut Row,
-    col: &Row,
-    g: &Gains,
+    problem: &Problem,
     z: &WideRow,
-    l: usize,
-    c: usize,
+    columns: &mut Columns,
     t: u8,
     base: u64,
-) -> Near
-    requires dist_len { (length dist.old ≡ degree_limit) × (length from.old ≡ degree_limit) × (l ≤ degree_limit) × (t < degree_limit) × (base ≤ 2 * gain_limit) × ((x : ℕ) → x < l → (at z.now x ≤ gain_limit) × (out_of c (cell g.now) t x ≤ base + at z.now x)) }
+) -> Least
+    requires dist_len { (length columns.old.distance ≡ degree_limit) × (length columns.old.from ≡ degree_limit) × (t < degree_limit) × (base ≤ 2 * gain_limit) × ((x : ℕ) → x < problem.now.matrix.columns → (at z.now x ≤ gain_limit) × (out_of problem.now.choice (cell problem.now.matrix.gains.now) t x ≤ base + at z.now x)) }
     requires row_countable { RowCountable t counts.old }
-    ensures { (Looked l t (λ x. base + at z.now x - out_of c (cell g.now) t x) (at col.now) dist.old from.old dist.new from.new result.column result.distance) × (Tried t l counts.old counts.new) }
+    ensures looked { Looked problem.now.matrix.columns t (λ x. base + at z.now x - out_of problem.now.choice (cell problem.now.matrix.gains.now) t x) (at (marks columns.old.joined)) columns.old.distance columns.old.from columns.new.distance columns.new.from result.place result.value }
+    ensures joined { columns.new.joined ≡ columns.old.joined }
+    ensures tried { Tried t problem.now.matrix.columns counts.old counts.new }
 {
-    let o = place(t);
-    let mut b = Limits::PLACES;
-    let mut d = FAR;
-    let mut j = 0;
-    while j < l {
-        let x = kept(c, j, look_at(counts, g, o, j));
-        let s = base + z[j] - x;
-        let old = dist[j];
-        let new = less_of(s, old);
-        dist[j] = new;
-        from[j] = who_of(s, old, t, from[j]);
-        let open = open_of(col[j], new);
-        b = place_of(open, d, j, b);
-        d = less_of(open, d);
-        j += 1;
+    let mut near = Least {
+        place: Limits::PLACES,
+        value: FAR,
+    };
+    let o = usize::from(t);
+    let l = problem.matrix.columns;
+    for j in 0..l {
+        let s = base + z[j] - problem.look_at(counts, o, j);
+        let old = columns.distance[j];
+        let new = old.min(s);
+        columns.distance[j] = new;
+        columns.from[j] = source(s, old, t, columns.from[j]);
+        let open = if columns.joined[j] { FAR } else { new };
+        near = near.or(j, open);
     }
-    Near {
-        column: b,
-        distance: d,
-    }
+    near
 }
 
-// The dual x of a row that joined the tree at distance j, where the search ends at e.
-fn row_end(e: u64, t: u8, j: u64, x: u64) -> u64
-    requires { t ≡ 1 → (e ≤ x + j) × (x + j ≤ 2 * gain_limit) }
-    ensures { result ≡ row_end e t j x }
+// The dual x where the place joined the tree: raised by up and lowered by down.
+fn shifted(joined: bool, x: u64, up: u64, down: u64) -> u64
+    requires { IsTrue joined → (down ≤ x + up) × (x + up ≤ 2 * gain_limit) }
+    ensures { result ≡ row_end down (mark joined) up x }
 {
-    if t == 1 { x + j - e } else { x }
-}
-
-// The dual x of a column that joined the tree at distance w, where the search ends at e.
-fn column_end(e: u64, c: u8, w: u64, x: u64) -> u64
-    requires { c ≡ 1 → (w ≤ x + e) × (x + e ≤ 2 * gain_limit) }
-    ensures { result ≡ column_end e c w x }
-{
-    if c == 1 { x + e - w } else { x }
-}
-
-// The duals of tree rows at the end of a search at distance e.
-fn settle_rows(y: &mut WideRow, row: &Row, join: &WideRow, k: usize, e: u64)
-    requires { (length y.old ≡ degree_limit) × (k ≤ degree_limit) × ((x : ℕ) → x < k → at row.now x ≡ 1 → (e ≤ at y.old x + at join.now x) × (at y.old x + at join.now x ≤ 2 * gain_limit)) }
-    ensures { Changed k (λ x v. row_end e (at row.now x) (at join.now x) v) y.old y.new }
-{
-    let mut i = 0;
-    while i < k {
-        y[i] = row_end(e, row[i], join[i], y[i]);
-        i += 1;
-    }
-}
-
-// The duals of tree columns at the end of a search at distance e.
-fn settle_columns(z: &mut WideRow, col: &Row, dist: &WideRow, l: usize, e: u64)
-    requires { (length z.old ≡ degree_limit) × (l ≤ degree_limit) × ((x : ℕ) → x < l → at col.now x ≡ 1 → (at dist.now x ≤ at z.old x + e) × (at z.old x + e ≤ 2 * gain_limit)) }
-    ensures { Changed l (λ x v. column_end e (at col.now x) (at dist.now x) v) z.old z.new }
-{
-    let mut j = 0;
-    while j < l {
-        z[j] = column_end(e, col[j], dist[j], z[j]);
-        j += 1;
-    }
+    if joined { x + up - down } else { x }
 }
 
 // The duals at the end of a search at distance e.
-fn settle(
-    y: &mut WideRow,
-    z: &mut WideRow,
-    row: &Row,
-    col: &Row,
-    dist: &WideRow,
-    join: &WideRow,
-    k: usize,
-    l: usize,
-    e: u64,
-)
-    requires { Room k l e row.now col.now dist.now join.now y.old z.old }
-    ensures { Settled k l e row.now col.now dist.now join.now y.old z.old y.new z.new }
+fn settle(solution: &mut Assignment, rows: &Rows, columns: &Columns, matrix: &Matrix, e: u64)
+    requires { Room matrix.now.rows matrix.now.columns e (marks rows.now.joined) (marks columns.now.joined) columns.now.distance rows.now.distance solution.old.row_duals solution.old.column_duals }
+    ensures settled { Settled matrix.now.rows matrix.now.columns e (marks rows.now.joined) (marks columns.now.joined) columns.now.distance rows.now.distance solution.old.row_duals solution.old.column_duals solution.new.row_duals solution.new.column_duals }
+    ensures column_of { solution.new.column_of ≡ solution.old.column_of }
 {
-    settle_rows(y, row, join, k, e);
-    settle_columns(z, col, dist, l, e);
+    let k = matrix.rows;
+    for i in 0..k {
+        let x = solution.row_duals[i];
+        solution.row_duals[i] = shifted(rows.joined[i], x, rows.distance[i], e);
+    }
+    let l = matrix.columns;
+    for j in 0..l {
+        let x = solution.column_duals[j];
+        solution.column_duals[j] = shifted(columns.joined[j], x, e, columns.distance[j]);
+    }
 }
 
 // Row o and its column b join the tree at distance d, by way of row p: o's alternative is p's with b for p, and o made free.
-fn grow(
-    alt: &mut [Row; Limits::PLACES],
-    row: &mut Row,
-    col: &mut Row,
-    join: &mut WideRow,
-    p: usize,
-    b: usize,
-    o: usize,
-    d: u64,
-)
+fn grow(rows: &mut Rows, columns: &mut Columns, p: usize, b: usize, o: usize, d: u64)
     requires { (p < degree_limit) × (b < degree_limit) × (o < degree_limit) }
-    ensures { Grown p b o d alt.old row.old col.old join.old alt.new row.new col.new join.new }
+    ensures grown { Grown p b o d rows.old.alternative (marks rows.old.joined) (marks columns.old.joined) rows.old.distance rows.new.alternative (marks rows.new.joined) (marks columns.new.joined) rows.new.distance }
+    ensures columns { (columns.new.distance ≡ columns.old.distance) × (columns.new.from ≡ columns.old.from) }
 {
-    alt[o] = alt[p];
-    alt[o][p] = byte(b);
-    alt[o][o] = FREE;
-    row[o] = 1;
-    col[b] = 1;
-    join[o] = d;
+    let alternative = rows.alternative[p];
+    rows.alternative[o] = alternative;
+    rows.alternative[o][p] = b as u8;
+    rows.alternative[o][o] = FREE;
+    rows.joined[o] = true;
+    columns.joined[b] = true;
+    rows.distance[o] = d;
 }
 
 // The search from row r, whose dual is the limit and whose distances are known. A turn takes the nearest column into the tree,
 // with its row. The search ends at a column without a row, or where a tree row's dual is 0: that row is made free.
 fn explore(
     counts: &mut Counts,
-    g: &Gains,
-    k: usize,
-    l: usize,
-    c: usize,
+    problem: &Problem,
     r: usize,
-    y: &mut WideRow,
-    z: &mut WideRow,
-    m: &mut Row,
-    own: &Row,
-    dist: &mut WideRow,
-    near: Near,
+    solution: &mut Assignment,
+    columns: &mut Columns,
+    first: Least,
 )
-    requires rooted { Rooted k l r (out_of c (cell g.now)) y.old z.old m.old own.now dist.old near.column near.distance }
+    requires rooted { Rooted problem.now.matrix.rows problem.now.matrix.columns r (out_of problem.now.choice (cell problem.now.matrix.gains.now)) solution.old.row_duals solution.old.column_duals solution.old.column_of solution.old.row_of columns.old.distance first.place first.value }
+    requires fresh { (columns.old.from ≡ replicate degree_limit r) × (columns.old.joined ≡ replicate degree_limit false) }
     requires by_index { (i : ℕ) → i < degree_limit → i ≢ r → RowCountable i counts.old }
-    ensures { (Ended k l r (out_of c (cell g.now)) y.old z.old m.old y.new z.new m.new) × (Once r counts.old counts.new) }
+    ensures { (Ended problem.now.matrix.rows problem.now.matrix.columns r (out_of problem.now.choice (cell problem.now.matrix.gains.now)) solution.old.row_duals solution.old.column_duals solution.old.column_of solution.new.row_duals solution.new.column_duals solution.new.column_of) × (Once r counts.old counts.new) }
 {
-    let mut row = [0u8; Limits::PLACES];
-    row[r] = 1;
-    let mut col = [0u8; Limits::PLACES];
-    let mut join = [0u64; Limits::PLACES];
-    let mut from = [byte(r); Limits::PLACES];
-    let mut alt = [[FREE; Limits::PLACES]; Limits::PLACES];
-    alt[r] = *m;
-    let mut a = r;
-    let mut low = GAIN_LIMIT;
-    let mut b = near.column;
-    let mut d = near.distance;
-    while d < low {
-        let p = place(from[b]);
-        let t = own[b];
-        let o = place(t);
+    let mut rows = Rows {
+        distance: [0; Limits::PLACES],
+        joined: [false; Limits::PLACES],
+        alternative: [[FREE; Limits::PLACES]; Limits::PLACES],
+    };
+    rows.joined[r] = true;
+    rows.alternative[r] = solution.column_of;
+    let mut low = Least {
+        place: r,
+        value: GAIN_LIMIT,
+    };
+    let mut near = first;
+    while near.value < low.value {
+        let b = near.place;
+        let d = near.value;
+        let p = usize::from(columns.from[b]);
+        let t = solution.row_of[b];
+        let o = usize::from(t);
         if Limits::PLACES <= o {
-            settle(y, z, &row, &col, dist, &join, k, l, d);
-            *m = alt[p];
-            m[p] = byte(b);
+            settle(solution, &rows, columns, &problem.matrix, d);
+            let matching = rows.alternative[p];
+            solution.column_of = matching;
+            solution.column_of[p] = b as u8;
             return;
         }
-        grow(&mut alt, &mut row, &mut col, &mut join, p, b, o, d);
-        let base = y[o] + d;
-        a = place_of(base, low, o, a);
-        low = less_of(base, low);
-        let next = look(counts, dist, &mut from, &col, g, z, l, c, t, base);
-        b = next.column;
-        d = next.distance;
+        grow(&mut rows, columns, p, b, o, d);
+        let base = solution.row_duals[o] + d;
+        low = low.or(o, base);
+        near = look(counts, problem, &solution.column_duals, columns, t, base);
     }
-    settle(y, z, &row, &col, dist, &join, k, l, low);
-    *m = alt[a];
+    settle(solution, &rows, columns, &problem.matrix, low.value);
+    solution.column_of = rows.alternative[low.place];
 }
 
 // Row r, which is pending, joins the finished rows, whichever they are. Its dual starts at the limit, which covers every gain, so
 // that its gains are looked at once. Nothing is left to do where the columns' duals cover r, or its nearest column is free.
-// `own` has the row of each column, before and after. The search is counted, and so is each pair that it looks at: none twice.
-fn search(
-    counts: &mut Counts,
-    g: &Gains,
-    k: usize,
-    l: usize,
-    c: usize,
-    r: usize,
-    y: &mut WideRow,
-    z: &mut WideRow,
-    m: &mut Row,
-    own: &mut Row,
-)
-    requires sized { (Sized k l (out_of c (cell g.now))) × (r < k) × (Lengths y.old z.old m.old) × (Bytes l m.old) × (Pending k l r (out_of c (cell g.now)) (at y.old) (at z.old) (at m.old)) × (OwnersOf k m.old own.old) }
+// The search is counted, and so is each pair that it looks at: none twice.
+fn search(counts: &mut Counts, problem: &Problem, r: usize, solution: &mut Assignment)
+    requires pending { (r < problem.now.matrix.rows) × (Lengths solution.old.row_duals solution.old.column_duals solution.old.column_of) × (Bytes problem.now.matrix.columns solution.old.column_of) × (Pending problem.now.matrix.rows problem.now.matrix.columns r (out_of problem.now.choice (cell problem.now.matrix.gains.now)) (at solution.old.row_duals) (at solution.old.column_duals) (at solution.old.column_of)) × (OwnersOf problem.now.matrix.rows solution.old.column_of solution.old.row_of) }
     requires countable { Countable 1 counts.old }
-    ensures { (Ended k l r (out_of c (cell g.now)) y.old z.old m.old y.new z.new m.new) × (OwnersOf k m.new own.new) × (Search counts.old counts.new) }
+    ensures ended { Ended problem.now.matrix.rows problem.now.matrix.columns r (out_of problem.now.choice (cell problem.now.matrix.gains.now)) solution.old.row_duals solution.old.column_duals solution.old.column_of solution.new.row_duals solution.new.column_duals solution.new.column_of }
+    ensures owners { OwnersOf problem.now.matrix.rows solution.new.column_of solution.new.row_of }
+    ensures search { Search counts.old counts.new }
 {
     counts[SEARCHES] += 1;
-    let mut dist = [0u64; Limits::PLACES];
-    let near = look_first(counts, &mut dist, g, z, l, c, r);
-    let d = near.distance;
+    let mut columns = Columns {
+        distance: [0; Limits::PLACES],
+        from: [r as u8; Limits::PLACES],
+        joined: [false; Limits::PLACES],
+    };
+    let near = look_first(
+        counts,
+        problem,
+        &solution.column_duals,
+        r,
+        &mut columns.distance,
+    );
+    let d = near.value;
     if GAIN_LIMIT <= d {
-        y[r] = 0;
+        solution.row_duals[r] = 0;
         return;
     }
-    let b = near.column;
-    if FREE <= own[b] {
-        y[r] = GAIN_LIMIT - d;
-        m[r] = byte(b);
-        own[b] = byte(r);
+    let b = near.place;
+    if FREE <= solution.row_of[b] {
+        solution.row_duals[r] = GAIN_LIMIT - d;
+        solution.column_of[r] = b as u8;
+        solution.row_of[b] = r as u8;
         return;
     }
-    y[r] = GAIN_LIMIT;
-    explore(counts, g, k, l, c, r, y, z, m, own, &mut dist, near);
-    *own = owners(m, k);
+    solution.row_duals[r] = GAIN_LIMIT;
+    explore(counts, problem, r, solution, &mut columns, near);
+    let own = owners(&solution.column_of, problem.matrix.rows);
+    solution.row_of = own;
 }
 
-// The heaviest matching of k rows and l columns with its duals for choice c, one search for each row. No row has a column yet. `own`
-// has the row of each column, beside `m`.
-pub(crate) fn solve_counted(
-    counts: &mut Counts,
-    g: &Gains,
-    k: usize,
-    l: usize,
-    c: usize,
-    y: &mut WideRow,
-    z: &mut WideRow,
-    m: &mut Row,
-    own: &mut Row,
-)
-    requires sized { (Sized k l (cell g.now)) × (length y.old ≡ degree_limit) × (Blank z.old m.old) × (own.old ≡ m.old) }
-    requires countable { Countable k counts.old }
-    ensures { (Answer k l (out_of c (cell g.now)) y.new z.new m.new) × (OwnersOf k m.new own.new) × (Searches k counts.old counts.new) }
+// The heaviest matching with its duals for a choice, one search for each row, whatever the solution held. The counts are lent for the work. (The solution
+// is lent too: returned by value it is copied three times, a third of the time of a 2 by 2 matrix.)
+pub fn solve_without(counts: &mut Counts, matrix: &Matrix, choice: usize, solution: &mut Assignment)
+    requires { Countable matrix.now.rows counts.old }
+    ensures answer { Answer matrix.now.rows matrix.now.columns (out_of choice (cell matrix.now.gains.now)) solution.new.row_duals solution.new.column_duals solution.new.column_of }
+    ensures owners { OwnersOf matrix.now.rows solution.new.column_of solution.new.row_of }
+    ensures searches { Searches matrix.now.rows counts.old counts.new }
 {
-    let mut r = 0;
-    while r < k {
-        search(counts, g, k, l, c, r, y, z, m, own);
-        r += 1;
+    let problem = Problem {
+        matrix: *matrix,
+        choice,
+    };
+    solution.column_duals = [0; Limits::PLACES];
+    solution.column_of = [FREE; Limits::PLACES];
+    solution.row_of = [FREE; Limits::PLACES];
+    let k = matrix.rows;
+    for r in 0..k {
+        search(counts, &problem, r, solution);
     }
 }
 
-// The same where neither the counts nor the row of each column is asked for. The counts are lent for the work.
-pub fn solve_without(
-    counts: &mut Counts,
-    g: &Gains,
-    k: usize,
-    l: usize,
-    c: usize,
-    y: &mut WideRow,
-    z: &mut WideRow,
-    m: &mut Row,
-)
-    requires sized { (Sized k l (cell g.now)) × (length y.old ≡ degree_limit) × (Blank z.old m.old) }
-    requires countable { Countable k counts.old }
-    ensures { Answer k l (out_of c (cell g.now)) y.new z.new m.new }
+// The same with all columns, where no one asks for the counts.
+pub fn solve(matrix: &Matrix, solution: &mut Assignment)
+    ensures { Answer matrix.now.rows matrix.now.columns (cell matrix.now.gains.now) solution.new.row_duals solution.new.column_duals solution.new.column_of }
 {
-    let mut own = [FREE; Limits::PLACES];
-    solve_counted(counts, g, k, l, c, y, z, m, &mut own);
+    let mut counts = [0; Limits::PAIRS + 1];
+    solve_without(&mut counts, matrix, 0, solution);
 }
 
-// The same with all columns. What the arrays held does not matter.
-pub fn solve(g: &Gains, k: usize, l: usize, y: &mut WideRow, z: &mut WideRow, m: &mut Row)
-    requires { (Sized k l (cell g.now)) × (length y.old ≡ degree_limit) }
-    ensures { Answer k l (cell g.now) y.new z.new m.new }
-{
-    let mut counts = [0u64; Limits::PAIRS + 1];
-    *z = [0u64; Limits::PLACES];
-    *m = [FREE; Limits::PLACES];
-    solve_without(&mut counts, g, k, l, 0, y, z, m);
-}
-
-// What row i has in the answer for choice c: its column, or FREE. A matched pair whose gain is 0 is no pair of the answer.
-pub fn partner(g: &Gains, l: usize, c: usize, m: &Row, i: usize) -> u8
+// What row i has in the answer for choice c, if any: its column. A matched pair whose gain is 0 is no pair of the answer.
+pub fn partner(g: &Gains, l: usize, c: usize, m: &Row, i: usize) -> Option<usize>
     requires { (l ≤ degree_limit) × (i < degree_limit) }
-    ensures { Partner l (out_of c (cell g.now)) (at m.now) i result }
+    ensures partner { Partner l (out_of c (cell g.now)) (at m.now) i (place_or result) }
+    ensures below { MatchOption result (Unit {0}) (λ j. j < l) }
 {
-    let t = m[i];
-    let j = place(t);
+    let j = usize::from(m[i]);
     if l <= j {
-        return FREE;
+        return None;
     }
     let none = kept(c, j, g[i * Limits::PLACES + j]) == 0;
     if none {
-        return FREE;
+        return None;
     }
-    t
+    Some(j)
 }
 
 // The sum of the first n.
@@ -436,18 +391,26 @@ fn sum_of(a: &WideRow, n: usize) -> u64
     ensures { (result ≡ sum n (at a.now)) × (result ≤ n * gain_limit) }
 {
     let mut s = 0;
-    let mut i = n;
-    while 0 < i {
-        i -= 1;
+    for i in 0..n {
         s += a[i];
     }
     s
 }
 
-// The sum of all duals: the greatest weight, where they are those of an answer.
-pub fn total(k: usize, l: usize, y: &WideRow, z: &WideRow) -> u64
-    requires { (k ≤ degree_limit) × (l ≤ degree_limit) × ((x : ℕ) → x < k → at y.now x ≤ gain_limit) × ((x : ℕ) → x < l → at z.now x ≤ gain_limit) }
-    ensures { Total k l (at y.now) (at z.now) result }
-{
-    sum_of(y, k) + sum_of(z, l)
+impl Assignment {
+    // The empty one, where no row has a column.
+    pub const EMPTY: Assignment = Assignment {
+        row_duals: [0; Limits::PLACES],
+        column_duals: [0; Limits::PLACES],
+        column_of: [FREE; Limits::PLACES],
+        row_of: [FREE; Limits::PLACES],
+    };
+
+    // The sum of the duals of the first k rows and l columns: the greatest weight, where they are those of an answer.
+    pub fn total(&self, k: usize, l: usize) -> u64
+        requires { (k ≤ degree_limit) × (l ≤ degree_limit) × ((x : ℕ) → x < k → at self.now.row_duals x ≤ gain_limit) × ((x : ℕ) → x < l → at self.now.column_duals x ≤ gain_limit) }
+        ensures { Total k l (at self.now.row_duals) (at self.now.column_duals) result }
+    {
+        sum_of(&self.row_duals, k) + sum_of(&self.column_duals, l)
+    }
 }

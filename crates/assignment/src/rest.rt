@@ -4,76 +4,61 @@ ghost use Rattle.std.specs.Prelude.{◌+◌, ◌-◌, ◌<◌, ◌≤◌, ◌≡
 ghost use Rattle.foundations.specs.Sums.{sum};
 ghost use Rattle.model.specs.Limits.{degree_limit};
 ghost use Rattle.assignment.specs.Matching.{at, cell, out_of};
-ghost use Rattle.assignment.specs.State.{Sized, Heaviest};
+ghost use Rattle.assignment.specs.State.{Heaviest};
 ghost use Rattle.assignment.specs.Tree.{Vacant, Reached, Solution};
 ghost use Rattle.assignment.specs.Counts.{Search, Countable};
 
-use crate::{Counts, FREE, GAIN_LIMIT, SEARCHES, byte, less_of, look, look_first, place};
-use model::{Gains, Limits, Row, WideRow};
+use crate::{Assignment, Columns, Counts, FREE, GAIN_LIMIT, Problem, SEARCHES, look, look_first};
+use model::Limits;
 
-// How far the search from row r goes, which is the only pending row, for choice c: the distance at which it ends, as in `search`.
-// (k, the number of rows, is there for the contract alone.)
-fn distance(
-    counts: &mut Counts,
-    g: &Gains,
-    k: usize,
-    l: usize,
-    c: usize,
-    r: usize,
-    y: &WideRow,
-    z: &WideRow,
-    own: &Row,
-) -> u64
-    requires vacant { Vacant k l r (out_of c (cell g.now)) y.now z.now own.now }
+// How far the search from row r goes, which is the only pending row: the distance at which it ends, as in `search`.
+fn distance(counts: &mut Counts, problem: &Problem, r: usize, solution: &Assignment) -> u64
+    requires vacant { Vacant problem.now.matrix.rows problem.now.matrix.columns r (out_of problem.now.choice (cell problem.now.matrix.gains.now)) solution.now.row_duals solution.now.column_duals solution.now.row_of }
     requires countable { Countable 1 counts.old }
-    ensures { (Reached k l r (out_of c (cell g.now)) y.now z.now result) × (Search counts.old counts.new) }
+    ensures { (Reached problem.now.matrix.rows problem.now.matrix.columns r (out_of problem.now.choice (cell problem.now.matrix.gains.now)) solution.now.row_duals solution.now.column_duals result) × (Search counts.old counts.new) }
 {
     counts[SEARCHES] += 1;
-    let mut dist = [0u64; Limits::PLACES];
-    let near = look_first(counts, &mut dist, g, z, l, c, r);
-    // kept by `look`; nothing here asks for it
-    let mut from = [byte(r); Limits::PLACES];
-    let mut col = [0u8; Limits::PLACES];
+    // `look` keeps the rows in `from`; nothing here asks for them
+    let mut columns = Columns {
+        distance: [0; Limits::PLACES],
+        from: [r as u8; Limits::PLACES],
+        joined: [false; Limits::PLACES],
+    };
+    let z = &solution.column_duals;
+    let mut near = look_first(counts, problem, z, r, &mut columns.distance);
     let mut low = GAIN_LIMIT;
-    let mut b = near.column;
-    let mut d = near.distance;
-    while d < low {
-        let t = own[b];
-        let o = place(t);
+    while near.value < low {
+        let b = near.place;
+        let d = near.value;
+        let t = solution.row_of[b];
+        let o = usize::from(t);
         if Limits::PLACES <= o {
             return d;
         }
-        col[b] = 1;
-        let base = y[o] + d;
-        low = less_of(base, low);
-        let next = look(counts, &mut dist, &mut from, &col, g, z, l, c, t, base);
-        b = next.column;
-        d = next.distance;
+        columns.joined[b] = true;
+        let base = solution.row_duals[o] + d;
+        low = low.min(base);
+        near = look(counts, problem, z, &mut columns, t, base);
     }
     low
 }
 
-// The weight without the column that choice c leaves out, where row r has it in the answer of all columns, whose weight is `all`.
+// The weight without the column that the choice leaves out, where a row has it in the answer of all columns, whose weight is `all`.
 pub(crate) fn rest_weight(
     counts: &mut Counts,
-    g: &Gains,
-    k: usize,
-    l: usize,
-    c: usize,
-    r: usize,
-    y: &WideRow,
-    z: &WideRow,
-    own: &Row,
+    problem: &Problem,
+    solution: &Assignment,
     all: u64,
 ) -> u64
-    requires sized { (Sized k l (cell g.now)) × (Solution k l (cell g.now) y.now z.now own.now) × (1 ≤ c) × (c ≤ l) × (at own.now (c - 1) ≡ r) × (r < degree_limit) × (all ≡ sum k (at y.now) + sum l (at z.now)) }
+    requires sized { (Solution problem.now.matrix.rows problem.now.matrix.columns (cell problem.now.matrix.gains.now) solution.now.row_duals solution.now.column_duals solution.now.row_of) × (1 ≤ problem.now.choice) × (problem.now.choice ≤ problem.now.matrix.columns) × (at solution.now.row_of (problem.now.choice - 1) < degree_limit) × (all ≡ sum problem.now.matrix.rows (at solution.now.row_duals) + sum problem.now.matrix.columns (at solution.now.column_duals)) }
     requires countable { Countable 1 counts.old }
-    ensures { (Heaviest k l (out_of c (cell g.now)) result) × (Search counts.old counts.new) }
+    ensures { (Heaviest problem.now.matrix.rows problem.now.matrix.columns (out_of problem.now.choice (cell problem.now.matrix.gains.now)) result) × (Search counts.old counts.new) }
 {
-    let mut z2 = *z;
-    z2[c - 1] = 0;
-    let mut own2 = *own;
-    own2[c - 1] = FREE;
-    let e = distance(counts, g, k, l, c, r, y, &z2, &own2);
-    all + (GAIN_LIMIT - e) - (y[r] + z[c - 1])
+    let j = problem.choice - 1;
+    let r = usize::from(solution.row_of[j]);
+    let mut rest = *solution;
+    rest.column_duals[j] = 0;
+    rest.row_of[j] = FREE;
+    let e = distance(counts, problem, r, &rest);
+    all + (GAIN_LIMIT - e) - (solution.row_duals[r] + solution.column_duals[j])
 }

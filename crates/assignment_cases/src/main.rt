@@ -5,20 +5,20 @@
 //! and how many searches there were for the weights, of how many at most.
 #![tactic(auto)]
 
-ghost use Rattle.std.specs.Prelude.{ℕ, ◌+◌, ◌*◌, ◌<◌, ◌≤◌};
+ghost use Rattle.std.specs.Prelude.{◌*◌, ◌<◌, ◌≤◌};
 ghost use Rattle.model.specs.Limits.{degree_limit, pair_limit};
-ghost use Rattle.assignment.specs.Matching.{at, cell, gain_limit};
+ghost use Rattle.assignment.specs.Matching.{cell, gain_limit};
 ghost use Rattle.assignment.specs.State.{Sized, Answer};
 ghost use Rattle.assignment_cases.specs.Small.{Small};
 
 use assignment::weights::{Weights, row_weights, weights};
-use assignment::{FREE, GAIN_LIMIT, SEARCHES};
-use model::{Gains, Limits, Row, WideRow};
+use assignment::{Assignment, GAIN_LIMIT, Matrix, SEARCHES, partner};
+use model::{Gains, Limits};
+use std::fmt;
 use std::io;
-use std::num::wrapping_add_u64;
 
 // How many answers were compared and right, of whole matrices and of those without a column.
-#[derive(Drop)]
+#[derive(Clone, Copy)]
 struct Count {
     matrices: u64,
     right: u64,
@@ -27,6 +27,41 @@ struct Count {
     searches: u64,
     most: u64,
 }
+
+// What the gains of a matrix are.
+#[derive(Clone, Copy)]
+enum Kind {
+    ManyTies,
+    UpTo999,
+    ManyZeros,
+    WholeRange,
+    AtLimit,
+}
+
+impl Kind {
+    const ALL: [Kind; 5] = [
+        Kind::ManyTies,
+        Kind::UpTo999,
+        Kind::ManyZeros,
+        Kind::WholeRange,
+        Kind::AtLimit,
+    ];
+}
+
+impl fmt::Display for Kind {
+    fn fmt<W: fmt::Write>(&self, f: &mut fmt::Formatter<W>) -> fmt::Result {
+        f.write_str(match self {
+            Kind::ManyTies => "many ties",
+            Kind::UpTo999 => "up to 999",
+            Kind::ManyZeros => "many zeros",
+            Kind::WholeRange => "the whole range",
+            Kind::AtLimit => "at the limit",
+        })
+    }
+}
+
+// Which columns are free.
+type Free = [bool; Limits::PLACES];
 
 // The next of a sequence of numbers that look random.
 fn next(s: u64) -> u64 {
@@ -43,48 +78,32 @@ fn sparse(x: u64) -> u64
     if r < 4 { 0 } else { r % 4 }
 }
 
-// A gain of one kind: 0 ties, 1 larger, 2 many zeros, 3 the whole range, 4 at the limit.
-fn gain(kind: u64, x: u64) -> u64
+fn gain(kind: Kind, x: u64) -> u64
     ensures { result ≤ gain_limit }
 {
-    if kind == 0 {
-        return x % 4;
-    }
-    if kind == 1 {
-        return x % 1000;
-    }
-    if kind == 2 {
-        return sparse(x);
-    }
-    if kind == 3 {
-        x % 281474976710657
-    } else {
-        GAIN_LIMIT - x % 2
+    match kind {
+        Kind::ManyTies => x % 4,
+        Kind::UpTo999 => x % 1000,
+        Kind::ManyZeros => sparse(x),
+        Kind::WholeRange => x % (GAIN_LIMIT + 1),
+        Kind::AtLimit => GAIN_LIMIT - x % 2,
     }
 }
 
-fn table(kind: u64, seed: u64) -> Gains
+fn table(kind: Kind, seed: u64) -> Gains
     ensures { Small pair_limit result }
 {
-    let mut g = [0u64; Limits::PAIRS];
+    let mut g = [0; Limits::PAIRS];
     let mut s = seed;
-    let mut i = 0;
-    while i < Limits::PAIRS {
+    for i in 0..Limits::PAIRS {
         s = next(s);
         g[i] = gain(kind, s);
-        i += 1;
     }
     g
 }
 
-fn greater(a: u64, b: u64) -> u64
-    ensures { (n : ℕ) → a ≤ n → b ≤ n → result ≤ n }
-{
-    if a < b { b } else { a }
-}
-
-// The greatest weight of the first k rows over the free columns, by trying all.
-fn exhaustive(g: &Gains, k: usize, l: usize, free: Row) -> u64
+// The greatest weight of the first k rows over the free columns, by trying all. (It takes no `Matrix`: each step has a row less.)
+fn exhaustive(g: &Gains, k: usize, l: usize, free: Free) -> u64
     requires { Sized k l (cell g.now) }
     ensures { result ≤ k * gain_limit }
 {
@@ -93,167 +112,128 @@ fn exhaustive(g: &Gains, k: usize, l: usize, free: Row) -> u64
     }
     let i = k - 1;
     let mut best = exhaustive(g, i, l, free);
-    let mut j = 0;
-    while j < l {
-        if free[j] == 1 {
+    for j in 0..l {
+        if free[j] {
             let mut rest = free;
-            rest[j] = 0;
+            rest[j] = false;
             let w = g[i * Limits::PLACES + j] + exhaustive(g, i, l, rest);
-            best = greater(best, w);
+            best = best.max(w);
         }
-        j += 1;
     }
     best
 }
 
 // The weight of the pairs that are handed on.
-fn weigh(g: &Gains, k: usize, l: usize, m: &Row) -> u64
-    requires { (k ≤ degree_limit) × (l ≤ degree_limit) }
-{
-    let mut w = 0;
-    let mut i = 0;
-    while i < k {
-        let c = assignment::partner(g, l, 0, m, i);
-        if c < FREE {
-            w = wrapping_add_u64(w, g[i * Limits::PLACES + c as usize]);
+fn weigh(matrix: &Matrix, solution: &Assignment) -> u64 {
+    let g = matrix.gains;
+    let k = matrix.rows;
+    let mut w: u64 = 0;
+    for i in 0..k {
+        if let Some(c) = partner(g, matrix.columns, 0, &solution.column_of, i) {
+            w = w.wrapping_add(g[i * Limits::PLACES + c]);
         }
-        i += 1;
     }
     w
 }
 
 // Whether no two of these pairs have the same column, and each column is below l.
-fn distinct(g: &Gains, k: usize, l: usize, m: &Row) -> bool
-    requires { (k ≤ degree_limit) × (l ≤ degree_limit) }
-{
-    let mut ok = true;
-    let mut used = [0u8; Limits::PLACES];
-    let mut i = 0;
-    while i < k {
-        let c = assignment::partner(g, l, 0, m, i) as usize;
-        if c < Limits::PLACES {
-            let fresh = used[c] == 0;
-            let below = c < l;
-            ok = ok & fresh & below;
-            used[c] = 1;
+fn distinct(matrix: &Matrix, solution: &Assignment) -> bool {
+    let k = matrix.rows;
+    let l = matrix.columns;
+    let mut used = [false; Limits::PLACES];
+    for i in 0..k {
+        if let Some(c) = partner(matrix.gains, l, 0, &solution.column_of, i) {
+            if l <= c || used[c] {
+                return false;
+            }
+            used[c] = true;
         }
-        i += 1;
     }
-    ok
+    true
 }
 
-// Whether the dual y of row i and those of the columns cover the row's gains.
-fn row_covered(g: &Gains, l: usize, i: usize, y: u64, z: &WideRow) -> bool
-    requires { (i < degree_limit) × (l ≤ degree_limit) }
+// Whether the duals of row i and of the columns cover the row's gains.
+fn row_covered(matrix: &Matrix, solution: &Assignment, i: usize) -> bool
+    requires { i < degree_limit }
 {
-    let mut ok = true;
-    let mut j = 0;
-    while j < l {
-        let covered = g[i * Limits::PLACES + j] <= wrapping_add_u64(y, z[j]);
-        ok = ok & covered;
-        j += 1;
-    }
-    ok
-}
-
-fn covered(g: &Gains, k: usize, l: usize, y: &WideRow, z: &WideRow) -> bool
-    requires { (k ≤ degree_limit) × (l ≤ degree_limit) }
-{
-    let mut ok = true;
-    let mut i = 0;
-    while i < k {
-        let row = row_covered(g, l, i, y[i], z);
-        ok = ok & row;
-        i += 1;
-    }
-    ok
+    let l = matrix.columns;
+    (0..l).all(|j| {
+        matrix.gains[i * Limits::PLACES + j]
+            <= solution.row_duals[i].wrapping_add(solution.column_duals[j])
+    })
 }
 
 // Whether an answer is right.
-fn right(g: &Gains, k: usize, l: usize, y: &WideRow, z: &WideRow, m: &Row) -> bool
-    requires { (Sized k l (cell g.now)) × (Answer k l (cell g.now) y.now z.now m.now) }
+fn right(matrix: &Matrix, solution: &Assignment) -> bool
+    requires { Answer matrix.now.rows matrix.now.columns (cell matrix.now.gains.now) solution.now.row_duals solution.now.column_duals solution.now.column_of }
 {
-    let t = assignment::total(k, l, y, z);
-    let greatest = t == exhaustive(g, k, l, [1u8; Limits::PLACES]);
-    let made = t == weigh(g, k, l, m);
-    greatest & made & distinct(g, k, l, m) & covered(g, k, l, y, z)
+    let k = matrix.rows;
+    let l = matrix.columns;
+    let t = solution.total(k, l);
+    let greatest = t == exhaustive(matrix.gains, k, l, [true; Limits::PLACES]);
+    let made = t == weigh(matrix, solution);
+    let covered = (0..k).all(|i| row_covered(matrix, solution, i));
+    greatest & made & distinct(matrix, solution) & covered
 }
 
 // The columns but c.
-fn all_but(c: usize) -> Row
+fn all_but(c: usize) -> Free
     requires { c < degree_limit }
 {
-    let mut free = [1u8; Limits::PLACES];
-    free[c] = 0;
+    let mut free = [true; Limits::PLACES];
+    free[c] = false;
     free
 }
 
 // How many of the weights without a column are right.
-fn rests_right(g: &Gains, k: usize, l: usize, t: &Weights) -> u64
-    requires { Sized k l (cell g.now) }
-{
-    let mut fine = 0;
-    let mut c = 0;
-    while c < l {
-        let right = t[c + 1] == exhaustive(g, k, l, all_but(c));
-        fine = wrapping_add_u64(fine, one(right));
-        c += 1;
-    }
-    fine
-}
-
-fn one(b: bool) -> u64 {
-    if b { 1 } else { 0 }
-}
-
-fn pick(b: bool, x: u64, y: u64) -> u64 {
-    if b { x } else { y }
+fn rests_right(matrix: &Matrix, t: &Weights) -> u64 {
+    let k = matrix.rows;
+    let l = matrix.columns;
+    (0..l).filter(|c| t[*c + 1] == exhaustive(matrix.gains, k, l, all_but(*c))).count() as u64
 }
 
 // The weights of the first row alone are those in t.
 fn single_right(g: &Gains, l: usize, t: &Weights) -> bool
     requires { l ≤ degree_limit }
 {
-    let mut counts = [0u64; Limits::PAIRS + 1];
+    let mut counts = [0; Limits::PAIRS + 1];
     let s = row_weights(&mut counts, g, l);
-    let mut fine = true;
-    let mut c = 0;
-    while c <= l {
-        let same = pick(c == s.out, s.rest, s.whole) == t[c];
-        fine = fine & same;
-        c += 1;
-    }
-    fine
+    (0..l + 1).all(|c| t[c] == if c == s.out { s.rest } else { s.whole })
 }
 
 // One matrix of k rows and l columns, and its weights without each column, added to the counts.
-fn compare(kind: u64, seed: u64, k: usize, l: usize, n: Count) -> Count
+fn compare(kind: Kind, seed: u64, k: usize, l: usize, n: &mut Count)
     requires { (k ≤ degree_limit) × (l ≤ degree_limit) }
 {
     let g = table(kind, seed);
-    let mut y = [5u64; Limits::PLACES];
-    let mut z = [6u64; Limits::PLACES];
-    let mut m = [7u8; Limits::PLACES];
-    assignment::solve(&g, k, l, &mut y, &mut z, &mut m);
-    let mut t = [8u64; Limits::PLACES + 1];
-    let mut counts = [0u64; Limits::PAIRS + 1];
-    weights(&mut t, &mut counts, &g, k, l);
-    let same = t[0] == assignment::total(k, l, &y, &z);
-    let single = single_right(&g, l, &t);
-    let other = k != 1;
-    let whole = right(&g, k, l, &y, &z, &m) & same & (single | other);
-    Count {
-        matrices: wrapping_add_u64(n.matrices, 1),
-        right: wrapping_add_u64(n.right, one(whole)),
-        rests: wrapping_add_u64(n.rests, l as u64),
-        rests_right: wrapping_add_u64(n.rests_right, rests_right(&g, k, l, &t)),
-        searches: wrapping_add_u64(n.searches, counts[SEARCHES]),
-        most: wrapping_add_u64(n.most, (k + l) as u64),
-    }
+    let matrix = Matrix {
+        gains: &g,
+        rows: k,
+        columns: l,
+    };
+    // what the arrays hold does not matter
+    let mut solution = Assignment {
+        row_duals: [5; Limits::PLACES],
+        column_duals: [6; Limits::PLACES],
+        column_of: [7; Limits::PLACES],
+        row_of: [8; Limits::PLACES],
+    };
+    assignment::solve(&matrix, &mut solution);
+    let mut counts = [0; Limits::PAIRS + 1];
+    let t = weights(&mut counts, &matrix);
+    let same = t[0] == solution.total(k, l);
+    let single = k != 1 || single_right(&g, l, &t);
+    let whole = right(&matrix, &solution) & same & single;
+    n.matrices = n.matrices.wrapping_add(1);
+    n.right = n.right.wrapping_add(u64::from(whole));
+    n.rests = n.rests.wrapping_add(l as u64);
+    n.rests_right = n.rests_right.wrapping_add(rests_right(&matrix, &t));
+    n.searches = n.searches.wrapping_add(counts[SEARCHES]);
+    n.most = n.most.wrapping_add((k + l) as u64);
 }
 
 // Gains of one kind, for each number of rows and of columns from 0 to 5, eight matrices each.
-fn run(kind: u64, seed: u64) -> Count {
+fn run(kind: Kind, seed: u64) -> Count {
     let mut n = Count {
         matrices: 0,
         right: 0,
@@ -263,29 +243,18 @@ fn run(kind: u64, seed: u64) -> Count {
         most: 0,
     };
     let mut s = seed;
-    let mut i: usize = 0;
-    while i < 288 {
-        s = wrapping_add_u64(s, 11400714819323198485);
-        n = compare(kind, s, i % 6, i / 6 % 6, n);
-        i += 1;
+    for _ in 0..8 {
+        for l in 0..6 {
+            for k in 0..6 {
+                s = s.wrapping_add(11400714819323198485);
+                compare(kind, s, k, l, &mut n);
+            }
+        }
     }
     n
 }
 
-fn print_kind(rt: &impl Print, kind: u64) -> io::Result<()> {
-    match kind {
-        0 => print!(rt; ", many ties: "),
-        1 => print!(rt; ", up to 999: "),
-        2 => print!(rt; ", many zeros: "),
-        3 => print!(rt; ", the whole range: "),
-        _ => print!(rt; ", at the limit: "),
-    }
-}
-
-fn report(rt: &impl Print, kind: u64, seed: u64) -> io::Result<()> {
-    let n = run(kind, seed);
-    print!(rt; "seed {seed}")?;
-    print_kind(rt, kind)?;
+fn report(rt: &impl Print, kind: Kind, seed: u64) -> io::Result<()> {
     let Count {
         matrices,
         right,
@@ -293,17 +262,17 @@ fn report(rt: &impl Print, kind: u64, seed: u64) -> io::Result<()> {
         rests_right,
         searches,
         most,
-    } = n;
+    } = run(kind, seed);
     println!(rt;
-        "{matrices} matrices, {right} right; {rests} without a column, {rests_right} right; {searches} searches of at most {most}"
+        "seed {seed}, {kind}: {matrices} matrices, {right} right; {rests} without a column, {rests_right} right; {searches} searches of at most {most}"
     )
 }
 
 fn main(rt: HostRuntime) -> io::Result<()> {
-    let mut i = 0;
-    while i < 20 {
-        report(&rt, i % 5, i / 5 + 1)?;
-        i += 1;
+    for seed in 1..5 {
+        for kind in Kind::ALL {
+            report(&rt, kind, seed)?;
+        }
     }
     Ok(())
 }

@@ -5,8 +5,8 @@ ghost use Rattle.std.specs.Prelude.{◌≡◌};
 ghost use Rattle.assignment.specs.Matching.{cell, best, all};
 ghost use Rattle.assignment.specs.State.{Sized};
 
-use assignment::FREE;
-use model::{Gains, Limits};
+use assignment::{Assignment, Matrix};
+use model::Gains;
 
 // The greatest weight of the table's first k rows and l columns. The caller keeps to the limits.
 #[unsafe(no_mangle)]
@@ -14,9 +14,12 @@ pub extern "C" fn assignment_total(g: &Gains, k: usize, l: usize) -> u64
     requires { Sized k l (cell g.now) }
     ensures { result ≡ best l (cell g.now) k all }
 {
-    let mut y = [0u64; Limits::PLACES];
-    let mut z = [0u64; Limits::PLACES];
-    let mut m = [FREE; Limits::PLACES];
-    assignment::solve(g, k, l, &mut y, &mut z, &mut m);
-    assignment::total(k, l, &y, &z)
+    let matrix = Matrix {
+        gains: g,
+        rows: k,
+        columns: l,
+    };
+    let mut solution = Assignment::EMPTY;
+    assignment::solve(&matrix, &mut solution);
+    solution.total(k, l)
 }

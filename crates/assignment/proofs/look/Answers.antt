@@ -1,32 +1,25 @@
 -- `assignment::look` meets its contract. The invariant is `Looked` of the columns passed, and the row tried so far. Assumes nothing.
-use mathlib.Core.Path.{refl, ◌∙◌}
-use Prim.Native.Nat.{◌<◌}
-use Rattle.model.specs.Limits.{degree_limit}
+use mathlib.Core.Path.{◌≡◌, ap}
+use Prim.Native.Nat.{ℕ, ◌+◌, ◌-◌}
 use native.Mathlib.Omega.{arith}
 use borrow.Author.Rules.{rules}
-use Rattle.assignment.proofs.Leaves.{kept_is, looked_none, looked_more, looked_end}
-use Rattle.assignment.proofs.Counting.{tried_none, tried_more, tried_low, tried_end}
+use Rattle.assignment.specs.Matching.{at, cell, out_of}
+use Rattle.assignment.specs.Loops.{open_of}
+use Rattle.assignment.specs.Marks.{marks, marks_at}
+use Rattle.assignment.proofs.Leaves.{looked_more}
+use Rattle.assignment.proofs.Counting.{tried_more}
+use Rattle.assignment.proofs.look.Goals.{then-columns-j, else-columns-j}
 use Rattle.assignment.proofs.look.Goals as goal
-
-pub loop-j-init : goal.loop-j-init
-loop-j-init c = (search rules, looked_none _ _ _ _ _, tried_none _ _)
-
-pub look_at-requires : goal.look_at-requires
-look_at-requires c =
-    let p = c.requires in let e = c.place-o.ensures in let i = c.loop-j.invariant in let q : c.loop-j.j < degree_limit = omega (arith, p.dist_len.2, c.loop-j-test.true) in let t = tried_low p.row_countable i.2 q in (t.0, omega (arith, p.dist_len.3), q, rw e t.1)
-
-pub kept-x-requires : goal.kept-x-requires
-kept-x-requires c = omega (arith, c.requires.dist_len.2, c.loop-j-test.true)
-
-pub overflow_add-s : goal.overflow_add-s
-overflow_add-s c = omega (arith, (c.requires.dist_len.5 c.loop-j.j c.loop-j-test.true).0)
-
-pub overflow_sub-s : goal.overflow_sub-s
-overflow_sub-s c = omega (arith, (c.requires.dist_len.5 c.loop-j.j c.loop-j-test.true).1, kept_is c.args.c c.args.g.now c.args.t c.loop-j.j c.kept-x.ensures (rw c.place-o.ensures at c.look_at.ensures.0))
 
 pub loop-j-preserved : goal.loop-j-preserved
 loop-j-preserved c =
-    let p = c.requires in let i = c.loop-j.invariant in let e = c.place-o.ensures in let x = kept_is c.args.c c.args.g.now c.args.t c.loop-j.j c.kept-x.ensures (rw c.place-o.ensures at c.look_at.ensures.0) in let n = rw e at c.look_at.ensures.1 in (search rules, looked_more _ _ _ i.1 (search rules) (search rules) (c.less_of-new.ensures ∙ rw x refl) (c.who_of.ensures ∙ rw x refl) c.open_of-open.ensures c.place_of-b.ensures c.less_of-d.ensures, tried_more i.2 p.row_countable.size p.dist_len.3 (omega (arith, p.dist_len.2, c.loop-j-test.true)) n)
-
-pub returns : goal.returns
-returns c = (looked_end c.loop-j.invariant.1 c.loop-j-test.false c.loop-j.invariant.0, tried_end c.loop-j.invariant.2 c.loop-j-test.false c.loop-j.invariant.0)
+    let p = c.requires in
+    let x = c.loop-j in
+    let i = x.invariant in
+    let e = c.from-o.ensures in
+    let s : ℕ = c.args.base + at c.args.z.now x.j - c.look_at.result in
+    let reach : c.if-columns-j.open ≡ open_of (at (marks x.columns.joined) x.j) c.min-new.result = elim c.if-columns-j.branch [
+      | then-columns-j w ↦ rw (marks_at x.columns.joined x.j, w.if-columns-j.true) w.open-is
+      | else-columns-j w ↦ rw (marks_at x.columns.joined x.j, w.if-columns-j.false) w.open-is
+    ] in
+    (looked_more {F = λ x. c.args.base + at c.args.z.now x - out_of c.args.problem.now.choice (cell c.args.problem.now.matrix.gains.now) c.args.t x} s _ _ _ (ap (λ (v : ℕ). c.args.base + at c.args.z.now x.j - v) (rw e at c.look_at.ensures.0)) i.0 (search rules) (search rules) c.min-new.ensures c.source.ensures reach c.or-near.ensures.0 c.or-near.ensures.1, tried_more i.1 p.row_countable.size p.dist_len.2 (omega (arith, c.loop-j-test.true, c.args.problem.now.matrix.sized.columns)) (rw e at c.look_at.ensures.1), i.2)

@@ -1,10 +1,6 @@
 -- `assignment::owners` meets its contract. The invariant is `OwnersOf` of the rows passed. Assumes nothing.
-use Prim.Native.Nat.{◌-◌, ◌≤◌}
 use Rattle.assignment.specs.Loops.{OwnersOf}
 use Rattle.assignment.proofs.owners.Given as goal
 
 abbrev pub invariant-loop-i : goal.invariant-loop-i
-invariant-loop-i l = (l.i ≤ l.k) × OwnersOf l.i l.m l.own
-
-abbrev pub decreases-loop-i : goal.decreases-loop-i
-decreases-loop-i l = l.k - l.i
+invariant-loop-i l = OwnersOf l.i l.m l.own

@@ -2,10 +2,11 @@
 use Rattle.assignment.specs.Matching.{at, cell, out_of}
 use Rattle.assignment.specs.Tree.{outside}
 use Rattle.assignment.proofs.Distances.{Reaching}
+use Rattle.assignment.specs.Marks.{marks}
 use Rattle.assignment.proofs.rest.distance.Given as goal
 
-abbrev pub invariant-loop-d : goal.invariant-loop-d
-invariant-loop-d l = Reaching l.k l.l l.r (out_of l.c (cell l.g)) l.y l.z l.own l.col l.dist l.from l.low l.b l.d l.initial.counts l.counts
+abbrev pub invariant-loop-near : goal.invariant-loop-near
+invariant-loop-near l = Reaching l.problem.matrix.rows l.problem.matrix.columns l.r (out_of l.problem.choice (cell l.problem.matrix.gains.now)) l.solution.row_duals l.solution.column_duals l.solution.row_of (marks l.columns.joined) l.columns.distance l.columns.from l.low l.near.place l.near.value l.initial.counts l.counts
 
-abbrev pub decreases-loop-d : goal.decreases-loop-d
-decreases-loop-d l = outside l.l (at l.col)
+abbrev pub decreases-loop-near : goal.decreases-loop-near
+decreases-loop-near l = outside l.problem.matrix.columns (at (marks l.columns.joined))

@@ -1,12 +1,8 @@
 -- `column_weights` meets its contract. Assumes nothing.
 use native.Mathlib.Omega.{arith}
-use Rattle.assignment.specs.Counts.{countable_less, searches_one, searches_few}
+use Rattle.assignment.specs.Counts.{searches_one, searches_few}
 use Rattle.assignment.proofs.Choices.{column_weights_of}
 use Rattle.assignment.proofs.weights.column_weights.Goals as goal
 
-pub column_search-all-requires : goal.column_search-all-requires
-column_search-all-requires c =
-    let p = c.requires in (p.0.rows, countable_less p.1 (omega arith))
-
 pub returns : goal.returns
-returns c = (column_weights_of c.column_search-all.ensures.0, searches_few (searches_one c.column_search-all.ensures.1) (omega arith))
+returns c = (column_weights_of c.column_search-all.ensures.0.1, searches_few (searches_one c.column_search-all.ensures.1) (omega arith))

@@ -1,0 +1,10 @@
+-- `assignment::solve_without` meets its contract. The invariant: the rows below r are finished, by r searches. Assumes nothing.
+use Rattle.assignment.specs.State.{State, Lengths, Bytes}
+use Rattle.assignment.specs.Matching.{at, cell, out_of}
+use Rattle.assignment.specs.Counts.{Searches}
+use Rattle.assignment.specs.Loops.{OwnersOf}
+use Rattle.assignment.proofs.Roots.{before}
+use Rattle.assignment.proofs.solve_without.Given as goal
+
+abbrev pub invariant-loop-r : goal.invariant-loop-r
+invariant-loop-r l = Lengths l.solution.row_duals l.solution.column_duals l.solution.column_of × Bytes l.problem.matrix.columns l.solution.column_of × State l.problem.matrix.rows l.problem.matrix.columns (out_of l.problem.choice (cell l.problem.matrix.gains.now)) (before l.r) (at l.solution.row_duals) (at l.solution.column_duals) (at l.solution.column_of) × OwnersOf l.problem.matrix.rows l.solution.column_of l.solution.row_of × Searches l.r l.initial.counts l.counts
