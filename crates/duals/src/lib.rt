@@ -7,7 +7,7 @@ ghost use Rattle.assignment.specs.Matching.{cell};
 ghost use Rattle.solver.specs.Heaviest.{Table};
 ghost use Rattle.duals.specs.Solved.{PairGains, DualsOf};
 
-use assignment::FREE;
+use assignment::{Assignment, Matrix};
 use model::{Gains, Limits, WideRow};
 use plan::instance::Instance;
 use solver::subproblem::{gains, shared_of};
@@ -45,13 +45,16 @@ pub fn duals_of(w: i32, g: &Gains, k: usize, l: usize, c: usize) -> Duals
             neighbours: [0u64; Limits::PLACES],
         };
     }
-    let mut y = [0u64; Limits::PLACES];
-    let mut z = [0u64; Limits::PLACES];
-    let mut m = [FREE; Limits::PLACES];
+    let matrix = Matrix {
+        gains: g,
+        rows: k,
+        columns: l,
+    };
     let mut counts = [0u64; Limits::PAIRS + 1];
-    assignment::solve_without(&mut counts, g, k, l, c, &mut y, &mut z, &mut m);
+    let mut solution = Assignment::EMPTY;
+    assignment::solve_without(&mut counts, &matrix, c, &mut solution);
     Duals {
-        children: y,
-        neighbours: z,
+        children: solution.row_duals,
+        neighbours: solution.column_duals,
     }
 }

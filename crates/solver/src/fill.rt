@@ -13,8 +13,8 @@ ghost use Rattle.solver.specs.Numbers.{written, PairTable, Numbers};
 ghost use Rattle.solver.specs.Bound.{pair_most, search_most};
 
 use crate::subproblem::{Scratch, Shared, gains, shared_of};
-use assignment::Counts;
 use assignment::weights::{row_weights, weights};
+use assignment::{Counts, Matrix};
 use model::Limits;
 use plan::counts::width_of;
 use plan::instance::Instance;
@@ -65,8 +65,12 @@ fn fill_table(scratch: &mut Scratch, k: usize, l: usize, w: i32, work: &mut [i32
     let first = run.first;
     let from = run.from;
     let count = run.count;
-    let mut t = [0u64; Limits::PLACES + 1];
-    weights(&mut t, &mut scratch.counts, &scratch.gains, k, l);
+    let matrix = Matrix {
+        gains: &scratch.gains,
+        rows: k,
+        columns: l,
+    };
+    let t = weights(&mut scratch.counts, &matrix);
     for i in 0..count {
         let x = integers::stored_value(w, t[first + i]);
         work[from + i] = x;

@@ -1,20 +1,20 @@
 //! One subproblem from the work numbers before it: the gains of its branches, and what their heaviest matching matches. The work
 //! numbers may be any: a gain is below 2^32, and so eight of them are far below the matching's limit.
-ghost use Rattle.std.specs.Prelude.{◌+◌, ◌<◌, ◌≡◌, length, replicate};
+ghost use Rattle.std.specs.Prelude.{◌+◌, ◌<◌, ◌≡◌, length, replicate, MatchOption};
 ghost use Rattle.plan.specs.Pairs.{gain_at, RowFilled, Filled};
 ghost use Rattle.plan.specs.Plan.{neighbour_in, Lent, Pair};
 ghost use Rattle.solver.specs.Branches.{SharedOf};
 ghost use Rattle.solver.specs.Choice.{ChoiceAt};
 ghost use Rattle.solver.specs.Mates.{name_or, Mates};
-ghost use Rattle.assignment.specs.State.{Sized};
+ghost use Rattle.assignment.specs.State.{Sized, place_or};
 ghost use Rattle.model.specs.Values.{Subproblem, recalled};
 ghost use Rattle.assignment.specs.Matching.{cell, out_of};
 ghost use Rattle.model.specs.Tree.{count};
 ghost use Rattle.model.specs.Graph.{neighbours};
-ghost use Rattle.model.specs.Limits.{vertex_limit, pair_limit};
+ghost use Rattle.model.specs.Limits.{degree_limit, vertex_limit, pair_limit};
 ghost use Rattle.model.specs.Order.{children};
 
-use assignment::{Counts, FREE};
+use assignment::{Assignment, Counts, Matrix};
 use model::{Gains, Limits, Row};
 use plan::counts::width_of;
 use plan::instance::Instance;
@@ -105,15 +105,15 @@ pub fn gains(g: &mut Gains, on: &Instance, work: &[i32], of: Shared, v: u8)
     }
 }
 
-// The neighbour of v in column p, 255 where p is none.
-fn name_or(plan: &Plan, v: u8, p: u8) -> u8
-    requires { v < vertex_limit }
-    ensures { result ≡ name_or (neighbour_in plan.now v) p }
+// The neighbour of v in column p, 255 where there is none.
+fn name_or(plan: &Plan, v: u8, p: Option<usize>) -> u8
+    requires v_lt_vertex_limit { v < vertex_limit }
+    requires column { MatchOption p (Unit {0}) (λ j. j < degree_limit) }
+    ensures { result ≡ name_or (neighbour_in plan.now v) (place_or p) }
 {
-    if p < Limits::DEGREE {
-        neighbour(plan, v, usize::from(p))
-    } else {
-        Limits::NONE
+    match p {
+        Some(j) => neighbour(plan, v, j),
+        None => Limits::NONE,
     }
 }
 
@@ -124,13 +124,16 @@ fn mates(scratch: &mut Scratch, k: usize, l: usize, c: usize, plan: &Plan, v: u8
     requires v_lt_vertex_limit { v < vertex_limit }
     ensures { Mates k l (out_of c (cell scratch.old.gains)) (neighbour_in plan.now v) result }
 {
-    let mut y = [0u64; Limits::PLACES];
-    let mut z = [0u64; Limits::PLACES];
-    let mut m = [FREE; Limits::PLACES];
     scratch.counts = [0u64; Limits::PAIRS + 1];
-    let counts = &mut scratch.counts;
     let g = &scratch.gains;
-    assignment::solve_without(counts, g, k, l, c, &mut y, &mut z, &mut m);
+    let matrix = Matrix {
+        gains: g,
+        rows: k,
+        columns: l,
+    };
+    let mut solution = Assignment::EMPTY;
+    assignment::solve_without(&mut scratch.counts, &matrix, c, &mut solution);
+    let m = solution.column_of;
     let mut r = [Limits::NONE; Limits::PLACES];
     for i in 0..k {
         let p = assignment::partner(g, l, c, &m, i);

@@ -12,7 +12,7 @@ loop-i-init c = (omega arith, written_none _ _ _)
 
 pub stored_value-x-requires-clause-total_bound : goal.stored_value-x-requires-clause-total_bound
 stored_value-x-requires-clause-total_bound c =
-    let b : Same c.args.w = search rules in let i = c.loop-i.i in let t = c.loop-i-test.true in (small_heaviest (table_at c.requires.pair_table i t) (c.weights.ensures.0.each _ (c.requires.pair_table.choice i t))).small
+    let b : Same c.args.w = search rules in let i = c.loop-i.i in let t = c.loop-i-test.true in (small_heaviest (table_at c.requires.pair_table i t) (c.weights-t.ensures.0.each _ (c.requires.pair_table.choice i t))).small
 
 pub loop-i-preserved : goal.loop-i-preserved
 loop-i-preserved c =
@@ -20,4 +20,4 @@ loop-i-preserved c =
 
 pub returns : goal.returns
 returns c =
-    let b : Same c.args.w = search rules in let q : c.loop-i.i ≡ c.args.run.count = omega (arith, c.loop-i.invariant.0, c.loop-i-test.false) in (numbers_of c.requires.pair_table c.weights.ensures.0 (rw (q, b) at c.loop-i.invariant.1), c.weights.ensures.1)
+    let b : Same c.args.w = search rules in let q : c.loop-i.i ≡ c.args.run.count = omega (arith, c.loop-i.invariant.0, c.loop-i-test.false) in (numbers_of c.requires.pair_table c.weights-t.ensures.0 (rw (q, b) at c.loop-i.invariant.1), c.weights-t.ensures.1)
