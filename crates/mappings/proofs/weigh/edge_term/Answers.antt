@@ -19,7 +19,7 @@ end_a-requires c = rw c.vertex_count-n.ensures record { ends = c.requires.ground
 
 pub partner_of-a-requires : goal.partner_of-a-requires
 partner_of-a-requires c =
-    let x-is : c.end_a.result ≡ end_a c.args.recorded.now (count c.args.recorded.now) c.args.j = c.end_a.ensures ∙ ap (λ (n : ℕ). end_a c.args.recorded.now n c.args.j) c.vertex_count-n.ensures in
+    let x-is : c.end_a.result ≡ end_a c.args.recorded.now (count c.args.recorded.now) c.args.j = c.end_a.ensures.value ∙ ap (λ (n : ℕ). end_a c.args.recorded.now n c.args.j) c.vertex_count-n.ensures in
     let x_low : c.end_a.result < length c.args.mapping.now = subst (λ (x : ℕ). x < length c.args.mapping.now) (sym x-is) (ends_in _ _ _ _ c.requires.ground c.args.j _ _ c.requires.j_bound refl refl).0 in
     let h = x_low in search rules
 
@@ -28,30 +28,30 @@ end_b-requires c = rw c.vertex_count-n.ensures record { ends = c.requires.ground
 
 pub partner_of-b-requires : goal.partner_of-b-requires
 partner_of-b-requires c =
-    let y-is : c.end_b.result ≡ end_b c.args.recorded.now (count c.args.recorded.now) c.args.j = c.end_b.ensures ∙ ap (λ (n : ℕ). end_b c.args.recorded.now n c.args.j) c.vertex_count-n.ensures in
+    let y-is : c.end_b.result ≡ end_b c.args.recorded.now (count c.args.recorded.now) c.args.j = c.end_b.ensures.value ∙ ap (λ (n : ℕ). end_b c.args.recorded.now n c.args.j) c.vertex_count-n.ensures in
     let y-low : c.end_b.result < length c.args.mapping.now = subst (λ (y : ℕ). y < length c.args.mapping.now) (sym y-is) (ends_in _ _ _ _ c.requires.ground c.args.j _ _ c.requires.j_bound refl refl).1 in
     let h = y-low in search rules
 
 pub returns-then-a : goal.returns-then-a
 returns-then-a c =
-    let y-is : c.end_b.result ≡ end_b c.args.recorded.now (count c.args.recorded.now) c.args.j = c.end_b.ensures ∙ ap (λ (n : ℕ). end_b c.args.recorded.now n c.args.j) c.vertex_count-n.ensures in
-    let x-is : c.end_a.result ≡ end_a c.args.recorded.now (count c.args.recorded.now) c.args.j = c.end_a.ensures ∙ ap (λ (n : ℕ). end_a c.args.recorded.now n c.args.j) c.vertex_count-n.ensures in
+    let y-is : c.end_b.result ≡ end_b c.args.recorded.now (count c.args.recorded.now) c.args.j = c.end_b.ensures.value ∙ ap (λ (n : ℕ). end_b c.args.recorded.now n c.args.j) c.vertex_count-n.ensures in
+    let x-is : c.end_a.result ≡ end_a c.args.recorded.now (count c.args.recorded.now) c.args.j = c.end_a.ensures.value ∙ ap (λ (n : ℕ). end_a c.args.recorded.now n c.args.j) c.vertex_count-n.ensures in
     let eb : c.partner_of-b.result ≡ get_or c.args.mapping.now (end_b c.args.recorded.now (count c.args.recorded.now) c.args.j) 0 = c.partner_of-b.ensures ∙ ap (λ (x : ℕ). get_or c.args.mapping.now x 0) (y-is) in
     let ea : c.partner_of-a.result ≡ get_or c.args.mapping.now (end_a c.args.recorded.now (count c.args.recorded.now) c.args.j) 0 = c.partner_of-a.ensures ∙ ap (λ (x : ℕ). get_or c.args.mapping.now x 0) (x-is) in
     edge_none _ _ _ _ c.requires.ground c.args.j _ _ c.requires.j_bound (ea) (eb) (inl c.if-a.true)
 
 pub returns-then-b : goal.returns-then-b
 returns-then-b c =
-    let y-is : c.end_b.result ≡ end_b c.args.recorded.now (count c.args.recorded.now) c.args.j = c.end_b.ensures ∙ ap (λ (n : ℕ). end_b c.args.recorded.now n c.args.j) c.vertex_count-n.ensures in
-    let x-is : c.end_a.result ≡ end_a c.args.recorded.now (count c.args.recorded.now) c.args.j = c.end_a.ensures ∙ ap (λ (n : ℕ). end_a c.args.recorded.now n c.args.j) c.vertex_count-n.ensures in
+    let y-is : c.end_b.result ≡ end_b c.args.recorded.now (count c.args.recorded.now) c.args.j = c.end_b.ensures.value ∙ ap (λ (n : ℕ). end_b c.args.recorded.now n c.args.j) c.vertex_count-n.ensures in
+    let x-is : c.end_a.result ≡ end_a c.args.recorded.now (count c.args.recorded.now) c.args.j = c.end_a.ensures.value ∙ ap (λ (n : ℕ). end_a c.args.recorded.now n c.args.j) c.vertex_count-n.ensures in
     let eb : c.partner_of-b.result ≡ get_or c.args.mapping.now (end_b c.args.recorded.now (count c.args.recorded.now) c.args.j) 0 = c.partner_of-b.ensures ∙ ap (λ (x : ℕ). get_or c.args.mapping.now x 0) (y-is) in
     let ea : c.partner_of-a.result ≡ get_or c.args.mapping.now (end_a c.args.recorded.now (count c.args.recorded.now) c.args.j) 0 = c.partner_of-a.ensures ∙ ap (λ (x : ℕ). get_or c.args.mapping.now x 0) (x-is) in
     edge_none _ _ _ _ c.requires.ground c.args.j _ _ c.requires.j_bound (ea) (eb) (inr c.if-b.true)
 
 pub slot-c-requires : goal.slot-c-requires
 slot-c-requires c =
-    let y-is : c.end_b.result ≡ end_b c.args.recorded.now (count c.args.recorded.now) c.args.j = c.end_b.ensures ∙ ap (λ (n : ℕ). end_b c.args.recorded.now n c.args.j) c.vertex_count-n.ensures in
-    let x-is : c.end_a.result ≡ end_a c.args.recorded.now (count c.args.recorded.now) c.args.j = c.end_a.ensures ∙ ap (λ (n : ℕ). end_a c.args.recorded.now n c.args.j) c.vertex_count-n.ensures in
+    let y-is : c.end_b.result ≡ end_b c.args.recorded.now (count c.args.recorded.now) c.args.j = c.end_b.ensures.value ∙ ap (λ (n : ℕ). end_b c.args.recorded.now n c.args.j) c.vertex_count-n.ensures in
+    let x-is : c.end_a.result ≡ end_a c.args.recorded.now (count c.args.recorded.now) c.args.j = c.end_a.ensures.value ∙ ap (λ (n : ℕ). end_a c.args.recorded.now n c.args.j) c.vertex_count-n.ensures in
     let B : ℕ = c.partner_of-b.result in
     let A : ℕ = c.partner_of-a.result in
     let eb : c.partner_of-b.result ≡ get_or c.args.mapping.now (end_b c.args.recorded.now (count c.args.recorded.now) c.args.j) 0 = c.partner_of-b.ensures ∙ ap (λ (x : ℕ). get_or c.args.mapping.now x 0) (y-is) in
@@ -64,8 +64,8 @@ edge_label_at-i-requires c = rw c.vertex_count-n.ensures record { ends = c.requi
 
 pub overflow_sub-c : goal.overflow_sub-c
 overflow_sub-c c =
-    let y-is : c.end_b.result ≡ end_b c.args.recorded.now (count c.args.recorded.now) c.args.j = c.end_b.ensures ∙ ap (λ (n : ℕ). end_b c.args.recorded.now n c.args.j) c.vertex_count-n.ensures in
-    let x-is : c.end_a.result ≡ end_a c.args.recorded.now (count c.args.recorded.now) c.args.j = c.end_a.ensures ∙ ap (λ (n : ℕ). end_a c.args.recorded.now n c.args.j) c.vertex_count-n.ensures in
+    let y-is : c.end_b.result ≡ end_b c.args.recorded.now (count c.args.recorded.now) c.args.j = c.end_b.ensures.value ∙ ap (λ (n : ℕ). end_b c.args.recorded.now n c.args.j) c.vertex_count-n.ensures in
+    let x-is : c.end_a.result ≡ end_a c.args.recorded.now (count c.args.recorded.now) c.args.j = c.end_a.ensures.value ∙ ap (λ (n : ℕ). end_a c.args.recorded.now n c.args.j) c.vertex_count-n.ensures in
     let B : ℕ = c.partner_of-b.result in
     let A : ℕ = c.partner_of-a.result in
     let eb : c.partner_of-b.result ≡ get_or c.args.mapping.now (end_b c.args.recorded.now (count c.args.recorded.now) c.args.j) 0 = c.partner_of-b.ensures ∙ ap (λ (x : ℕ). get_or c.args.mapping.now x 0) (y-is) in
@@ -77,8 +77,8 @@ overflow_sub-c c =
 
 pub neighbour_edge-k-requires : goal.neighbour_edge-k-requires
 neighbour_edge-k-requires c =
-    let y-is : c.end_b.result ≡ end_b c.args.recorded.now (count c.args.recorded.now) c.args.j = c.end_b.ensures ∙ ap (λ (n : ℕ). end_b c.args.recorded.now n c.args.j) c.vertex_count-n.ensures in
-    let x-is : c.end_a.result ≡ end_a c.args.recorded.now (count c.args.recorded.now) c.args.j = c.end_a.ensures ∙ ap (λ (n : ℕ). end_a c.args.recorded.now n c.args.j) c.vertex_count-n.ensures in
+    let y-is : c.end_b.result ≡ end_b c.args.recorded.now (count c.args.recorded.now) c.args.j = c.end_b.ensures.value ∙ ap (λ (n : ℕ). end_b c.args.recorded.now n c.args.j) c.vertex_count-n.ensures in
+    let x-is : c.end_a.result ≡ end_a c.args.recorded.now (count c.args.recorded.now) c.args.j = c.end_a.ensures.value ∙ ap (λ (n : ℕ). end_a c.args.recorded.now n c.args.j) c.vertex_count-n.ensures in
     let B : ℕ = c.partner_of-b.result in
     let A : ℕ = c.partner_of-a.result in
     let eb : c.partner_of-b.result ≡ get_or c.args.mapping.now (end_b c.args.recorded.now (count c.args.recorded.now) c.args.j) 0 = c.partner_of-b.ensures ∙ ap (λ (x : ℕ). get_or c.args.mapping.now x 0) (y-is) in
@@ -91,8 +91,8 @@ neighbour_edge-k-requires c =
 
 pub edge_pair-requires : goal.edge_pair-requires
 edge_pair-requires c =
-    let y-is : c.end_b.result ≡ end_b c.args.recorded.now (count c.args.recorded.now) c.args.j = c.end_b.ensures ∙ ap (λ (n : ℕ). end_b c.args.recorded.now n c.args.j) c.vertex_count-n.ensures in
-    let x-is : c.end_a.result ≡ end_a c.args.recorded.now (count c.args.recorded.now) c.args.j = c.end_a.ensures ∙ ap (λ (n : ℕ). end_a c.args.recorded.now n c.args.j) c.vertex_count-n.ensures in
+    let y-is : c.end_b.result ≡ end_b c.args.recorded.now (count c.args.recorded.now) c.args.j = c.end_b.ensures.value ∙ ap (λ (n : ℕ). end_b c.args.recorded.now n c.args.j) c.vertex_count-n.ensures in
+    let x-is : c.end_a.result ≡ end_a c.args.recorded.now (count c.args.recorded.now) c.args.j = c.end_a.ensures.value ∙ ap (λ (n : ℕ). end_a c.args.recorded.now n c.args.j) c.vertex_count-n.ensures in
     let B : ℕ = c.partner_of-b.result in
     let A : ℕ = c.partner_of-a.result in
     let eb : c.partner_of-b.result ≡ get_or c.args.mapping.now (end_b c.args.recorded.now (count c.args.recorded.now) c.args.j) 0 = c.partner_of-b.ensures ∙ ap (λ (x : ℕ). get_or c.args.mapping.now x 0) (y-is) in
@@ -108,8 +108,8 @@ edge_pair-requires c =
 
 pub returns : goal.returns
 returns c =
-    let y-is : c.end_b.result ≡ end_b c.args.recorded.now (count c.args.recorded.now) c.args.j = c.end_b.ensures ∙ ap (λ (n : ℕ). end_b c.args.recorded.now n c.args.j) c.vertex_count-n.ensures in
-    let x-is : c.end_a.result ≡ end_a c.args.recorded.now (count c.args.recorded.now) c.args.j = c.end_a.ensures ∙ ap (λ (n : ℕ). end_a c.args.recorded.now n c.args.j) c.vertex_count-n.ensures in
+    let y-is : c.end_b.result ≡ end_b c.args.recorded.now (count c.args.recorded.now) c.args.j = c.end_b.ensures.value ∙ ap (λ (n : ℕ). end_b c.args.recorded.now n c.args.j) c.vertex_count-n.ensures in
+    let x-is : c.end_a.result ≡ end_a c.args.recorded.now (count c.args.recorded.now) c.args.j = c.end_a.ensures.value ∙ ap (λ (n : ℕ). end_a c.args.recorded.now n c.args.j) c.vertex_count-n.ensures in
     let B : ℕ = c.partner_of-b.result in
     let A : ℕ = c.partner_of-a.result in
     let eb : c.partner_of-b.result ≡ get_or c.args.mapping.now (end_b c.args.recorded.now (count c.args.recorded.now) c.args.j) 0 = c.partner_of-b.ensures ∙ ap (λ (x : ℕ). get_or c.args.mapping.now x 0) (y-is) in
