@@ -42,6 +42,7 @@ fn put_in(row: Row, w: u8) -> Row
 }
 
 // The neighbours of every vertex of an accepted tree: each edge puts either end into the row of the other.
+// Free places are NONE and no Option: the definition `neighbour_table` has no_vertex there.
 pub fn neighbour_table(s: &[u8]) -> PlaceTable
     requires { Ends s.now (count s.now) }
     ensures { result ≡ neighbour_table s.now }

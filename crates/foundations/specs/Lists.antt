@@ -103,15 +103,6 @@ module _ {A : Type 0} (f : ℕ → A) where
   unfolding tab
   tab_more d v h = rw (add-one, drop-cons d v (f v) h, set_at (tab f v) (get_or d v (f v)) (drop (suc v) d) (f v) v (length_tab v), append_assoc)
 
-  -- an array of n that held z, filled from the front: one turn, and the end
-  pub fill_step : (n : ℕ) (z : A) (v : ℕ) (t : List A) (y : A) → v < n → t ≡ tab f v ++ drop v (replicate n z) → y ≡ f v → set t v y ≡ tab f (v + 1) ++ drop (v + 1) (replicate n z)
-  fill_step n z v t y h e g = rw (e, g) (tab_more (replicate n z) v (rw length-replicate h))
-
-  pub fill_done : (n : ℕ) (z : A) (v : ℕ) (t : List A) → v ≡ n → t ≡ tab f v ++ drop v (replicate n z) → t ≡ tab f n
-  fill_done n z v t h e =
-      let d : drop v (replicate n z) ≡ [] = drop_of_length-le (replicate n z) {i = v} (rw length-replicate (omega arith)) in
-      e ∙ rw (d, append-nil, h)
-
 pub tab_ext : {A : Type 0} (f g : ℕ → A) (k : ℕ) → ((x : ℕ) → x < k → f x ≡ g x) → tab f k ≡ tab g k
 unfolding tab
 tab_ext f g zero h = refl

@@ -283,20 +283,6 @@ pub record BehindTo (rows : List (List ℕ)) (starts : List ℕ) (v j : ℕ) (r 
   pub long : length r ≡ degree_limit
   pub get : (i : ℕ) → i < j → Behind rows starts v (get_or (get_or rows v []) i 0) (get_or r i 0)
 
-pub behind_none : (rows : List (List ℕ)) (starts : List ℕ) (v : ℕ) (r : List ℕ) → length r ≡ degree_limit → BehindTo rows starts v 0 r
-behind_none rows starts v r e = record { long = e; get = λ i l. absurd (not-suc-le-zero l) }
-
-pub behind_more : (rows : List (List ℕ)) (starts : List ℕ) (v j : ℕ) (r : List ℕ) (b : ℕ) → j < degree_limit → BehindTo rows starts v j r → Behind rows starts v (get_or (get_or rows v []) j 0) b → BehindTo rows starts v (j + 1) (set r j b)
-behind_more rows starts v j r b h B N =
-    let n : length r ≡ degree_limit = B.long in
-    record {
-      long = length-set r j b ∙ n;
-      get = λ i l. ⊎_elim
-          (λ e. rw (e, get_or-set_same r j b 0 (omega arith)) N)
-          (λ e. rw (get_or-set_other r j i b 0 e) (B.get i (omega arith)))
-          (same? i j);
-    }
-
 -- ---- and in an accepted tree
 
 module _ (r : List ℕ) (K L : ℕ) (p : Passed r K L) (place : List ℕ) (placed : (u : ℕ) → u < count r → get_or place u 0 ≡ position r u) where

@@ -49,6 +49,7 @@ fn starts(found: &[u8], neighbours: &PlaceTable) -> [u8; Limits::PREFIXES]
 }
 
 // The children of a recorded vertex: their number, and in the first places each one's vertex, the edge to it as seen from its parent, and its place.
+// Three rows and no row of structs: each is a row of the plan as it stands (blocks CHILD, CHILD_EDGE, CHILD_PLACE).
 #[derive(Drop)]
 struct Family {
     count: u8,
@@ -61,11 +62,7 @@ struct Family {
 fn place_or(place: &VertexTable, w: u8) -> u8
     ensures { result ≡ place_or place.now w }
 {
-    if w < Limits::VERTICES {
-        place[w as usize]
-    } else {
-        Limits::NONE
-    }
+    place.get(w as usize).copied().unwrap_or(Limits::NONE)
 }
 
 // Of the neighbours in their places: those that come before `own` in the postorder are the children.
@@ -134,7 +131,7 @@ fn later_at(row: Row, place: &VertexTable, own: u8) -> usize
 fn at_or(row: Row, k: usize) -> u8
     ensures { result ≡ at_or row k }
 {
-    if k < Limits::PLACES { row[k] } else { 0 }
+    row.get(k).copied().unwrap_or(0)
 }
 
 // A recorded vertex's first row: its children's number, its place in the postorder, the vertex that stands u-th there, its parent and the

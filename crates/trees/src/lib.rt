@@ -9,6 +9,7 @@ ghost use Rattle.model.specs.Limits.{vertex_limit, no_vertex};
 use model::{Limits, PlaceTable, VertexTable};
 
 // Vertices in an order: the first `len` places of `at`, and `NONE` in the others.
+// No ArrayVec: the plan reads `at` as a table by place, and a full order takes no more and does not fail, which ArrayVec would leave to be written here.
 #[derive(Drop)]
 pub struct Order {
     pub at: VertexTable,
