@@ -1,12 +1,12 @@
 -- A refusal and its number: each number from 1 to 26 is that of one refusal; and what an answer is, from the number in it. Assumes nothing.
-use Rattle.std.specs.Prelude.{◌≡◌, refl, ◌≢◌, true, ℕ, ◌+◌, ◌-◌, ◌≤◌, eqb, Ok, Err}
+use Rattle.std.specs.Prelude.{◌≡◌, refl, ◌≢◌, true, ℕ, ◌+◌, ◌-◌, ◌≤◌, eqb, Result, Ok, Err, IsErrAnd, MatchResult}
 use Rattle.std.proofs.Common.{sym, ap, ◌∙◌, arith, eqb-true}
 use Rattle.foundations.specs.Lists.{every, every_at}
 use Rattle.model.specs.declared.refusal.TreeFault.{TreeFault}
 use Rattle.model.specs.declared.refusal.TreeFault.TheVariants.{Shape, Labels, Ends, Cycle, Degree, Serials}
 use Rattle.model.specs.declared.refusal.Refusal.{Refusal}
 use Rattle.model.specs.declared.refusal.Refusal.TheVariants.{TableShape, TableWeights, Recorded, Found, WorkShort, JobRecord, JobTrees, WorkNumber, JobUnfinished, MappingShort, CertificateShort, CertificateShape, CertificateMapping, CertificateWeight, CertificateRecord, CertificateAnswer}
-use Rattle.model.specs.Refusals.{tree_number, item_number, refusals, with_number, Answer, refusal_in}
+use Rattle.model.specs.Refusals.{tree_number, item_number, refusals, with_number, Answer, refusal_in, fault_in}
 
 pub with_own_number : (e : Refusal) → with_number (item_number e) ≡ e
 unfolding with_number refusals
@@ -67,6 +67,9 @@ number_low CertificateWeight = (omega arith, omega arith)
 number_low CertificateRecord = (omega arith, omega arith)
 number_low CertificateAnswer = (omega arith, omega arith)
 
+pub number_some : (e : Refusal) → item_number e ≢ 0
+number_some e z = let l = number_low e in omega arith
+
 own_place : every (λ i. eqb (item_number (with_number (i + 1))) (i + 1)) 26 ≡ true
 unfolding every with_number refusals
 own_place = refl
@@ -86,4 +89,20 @@ module _ {A : Type 0} where
 
   pub given_is : (a : Answer A) → refusal_in a ≡ 0 → (x : A) × (a ≡ Ok x)
   given_is (Ok x) e = (x, refl)
-  given_is (Err d) e = absurd (let l = number_low d in omega arith)
+  given_is (Err d) e = absurd (number_some d e)
+
+  -- what the exit of a `?` returns: e, of a part of the items; so it is the first of all that apply
+  pub sent_on : (a : Answer A) (e : Refusal) {part whole : ℕ} → IsErrAnd a (λ d. d ≡ e) → item_number e ≡ part → (part ≢ 0 → whole ≡ part) → refusal_in a ≡ whole
+  sent_on (Ok x) e h is first = elim h [ ]
+  sent_on (Err d) e h is first = ap item_number h ∙ is ∙ sym (first (λ z. number_some e (is ∙ z)))
+
+  -- a tree's fault told as the recorded tree's, and as the found one's
+  pub as_recorded : (r : Result A TreeFault) (a : Answer A) → MatchResult r (λ x. a ≡ Ok x) (λ e. IsErrAnd a (λ d. d ≡ Recorded e)) → refusal_in a ≡ fault_in 3 25 r
+  as_recorded (Ok x) a h = ap refusal_in h
+  as_recorded (Err e) (Ok x) h = elim h [ ]
+  as_recorded (Err e) (Err d) h = ap item_number h
+
+  pub as_found : (r : Result A TreeFault) (a : Answer A) → MatchResult r (λ x. a ≡ Ok x) (λ e. IsErrAnd a (λ d. d ≡ Found e)) → refusal_in a ≡ fault_in 8 26 r
+  as_found (Ok x) a h = ap refusal_in h
+  as_found (Err e) (Ok x) h = elim h [ ]
+  as_found (Err e) (Err d) h = ap item_number h
