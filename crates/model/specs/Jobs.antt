@@ -116,7 +116,7 @@ start_refusal a = refusal_in a
 abbrev pub advance_refusal : Answer ℕ → ℕ
 advance_refusal a = refusal_in a
 
-unfoldable pub advance_count : Answer ℕ → ℕ
+abbrev pub advance_count : Answer ℕ → ℕ
 advance_count (Ok c) = c
 advance_count (Err e) = 0
 

@@ -12,7 +12,7 @@ use Rattle.model.specs.Values.{values, answer}
 abbrev pub refusal_of : Answer ℤ → ℕ
 refusal_of a = refusal_in a
 
-unfoldable pub weight_of : Answer ℤ → ℤ
+abbrev pub weight_of : Answer ℤ → ℤ
 weight_of (Ok w) = w
 weight_of (Err e) = pos 0
 

@@ -20,15 +20,15 @@ sizes_of table recorded found =
 abbrev pub sizes_refusal : Answer Sizes → ℕ
 sizes_refusal a = refusal_in a
 
-unfoldable pub sizes_count : Answer Sizes → ℕ
+abbrev pub sizes_count : Answer Sizes → ℕ
 sizes_count (Ok sizes) = sizes.subproblems
 sizes_count (Err e) = 0
 
-unfoldable pub sizes_work : Answer Sizes → ℕ
+abbrev pub sizes_work : Answer Sizes → ℕ
 sizes_work (Ok sizes) = sizes.work
 sizes_work (Err e) = 0
 
-unfoldable pub sizes_length : Answer Sizes → ℕ
+abbrev pub sizes_length : Answer Sizes → ℕ
 sizes_length (Ok sizes) = sizes.certificate
 sizes_length (Err e) = 0
 

@@ -23,7 +23,7 @@ write_item table recorded found work certificate = first_of (write_items table r
 abbrev pub write_refusal : Answer ℕ → ℕ
 write_refusal a = refusal_in a
 
-unfoldable pub length_of : Answer ℕ → ℕ
+abbrev pub length_of : Answer ℕ → ℕ
 length_of (Ok l) = l
 length_of (Err e) = 0
 

@@ -1,6 +1,6 @@
 //! Why a call is turned down: the papers' items 1 to 26 by name. Their numbers are in specs/Refusals.antt, as `item_number`.
 ghost use Rattle.std.specs.Prelude.{◌≡◌, ◌≤◌};
-ghost use Rattle.model.specs.Refusals.{item_number, tree_number};
+ghost use Rattle.model.specs.Refusals.{item_number, tree_number, refusal_in};
 
 use std::fmt;
 
@@ -93,6 +93,16 @@ impl Refusal {
             Refusal::CertificateRecord => 23,
             Refusal::CertificateAnswer => 24,
         }
+    }
+}
+
+// The number that C and the programs are told: the item's, 0 where none turned the call down.
+pub fn refusal_in(answer: Result<(), Refusal>) -> u8
+    ensures { result ≡ refusal_in answer }
+{
+    match answer {
+        Ok(()) => 0,
+        Err(refusal) => refusal.number(),
     }
 }
 
