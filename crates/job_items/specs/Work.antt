@@ -3,9 +3,10 @@ use Rattle.std.specs.Prelude.{◌≡◌, Bool, true, false, ◌&&◌, List, get_
 use Rattle.std.proofs.Math.Path.{refl, sym, subst}
 use Rattle.std.proofs.Common.{ap, ◌∙◌, add-one}
 use Rattle.std.proofs.Math.Logic.{⊎_elim}
-use Prim.Native.Nat.{ℕ, suc, ◌+◌, ◌*◌, ◌-◌, ◌≤◌, ◌<◌, min}
+use Prim.Native.Nat.{ℕ, suc, ◌+◌, ◌*◌, ◌/◌, ◌%◌, ◌-◌, ◌≤◌, ◌<◌, min}
 use native.Mathlib.Omega.{arith}
 use Rattle.std.proofs.Math.Nat.{mul-le-mul}
+use Rattle.std.proofs.lemmas.Grind.{div_ceil_times}
 use Rattle.std.proofs.Math.Arith.{digits_div, digits_mod}
 use Rattle.std.proofs.Math.ListN.{length}
 use Rattle.std.specs.Int.Signed.{le_z}
@@ -92,7 +93,15 @@ module _ {table r f : List ℕ} {plan : List (List ℕ)} (N : Ready table r f pl
 
 -- ---- all rows
 
-module _ {table r f : List ℕ} {plan : List (List ℕ)} (N : Ready table r f plan) (i base position : ℕ) (e : base ≡ i * width f) (l : base < position) (h : position ≤ subproblems r f) where
+-- of as many rows as it takes to hold the numbers before the position, each begins before it
+pub row_before : (i w position : ℕ) → 0 < w → i < position / w + min 1 (position % w) → i * w < position
+row_before i w position s h =
+    let few = (div_ceil_times position w s).1 in
+    let last : suc i * w ≤ (position / w + min 1 (position % w)) * w = mul-le-mul h (omega arith) in
+    let next : suc i * w ≡ i * w + w = omega arith in
+    omega arith
+
+module _ {table r f : List ℕ} {plan : List (List ℕ)} (N : Ready table r f plan) (i position : ℕ) (l : i * width f < position) (h : position ≤ subproblems r f) where
   -- row i begins at i widths, where i is the place of its vertex in the postorder
   pub row_low : (i < count r) × (i < vertex_limit)
   unfolding subproblems
@@ -101,34 +110,22 @@ module _ {table r f : List ℕ} {plan : List (List ℕ)} (N : Ready table r f pl
       let low : i < count r = ⊎_elim (λ z. z) (λ z. let g : count r * width f ≤ i * width f = mul-le-mul z (omega arith) in absurd (omega arith)) (less? i (count r)) in
       (low, omega arith)
 
-  pub row_here : (work : List ℤ) (upto : ℕ) → Lent r f work → upto ≡ min (width f) (position - base) → (order_in plan i < count r) × (upto ≤ width f) × (base + upto ≤ length work)
+  pub row_here : (work : List ℤ) (upto : ℕ) → Lent r f work → upto ≡ min (width f) (position - i * width f) → (order_in plan i < count r) × (upto ≤ width f) × (i * width f + upto ≤ length work)
   row_here work upto L g =
       let A = ready_accepted N in
       let enough : subproblems r f ≤ length work = L.enough in
       (rw (N.planned.recorded i row_low.0).order (position_of r A.recorded.ends A.recorded.tree i row_low.0).0, omega arith, omega arith)
 
   -- one row more
-  pub row_more : (work : List ℤ) (upto : ℕ) (ok fine : Bool) → upto ≡ min (width f) (position - base) → ok ≡ work_ok table r f work (min base position) → fine ≡ every (row_test table r f work base (order_in plan i)) upto → (ok && fine) ≡ work_ok table r f work (min (base + width f) position)
+  pub row_more : (work : List ℤ) (upto : ℕ) (ok fine : Bool) → upto ≡ min (width f) (position - i * width f) → ok ≡ work_ok table r f work (min (i * width f) position) → fine ≡ every (row_test table r f work (i * width f) (order_in plan i)) upto → (ok && fine) ≡ work_ok table r f work (min ((i + 1) * width f) position)
   unfolding work_ok row_test u_at v_at
   row_more work upto ok fine g a b =
-      let u : min (base + width f) position ≡ base + upto = omega arith in
-      let v : min base position ≡ base = omega arith in
+      let u : min ((i + 1) * width f) position ≡ i * width f + upto = rw (add-one i) (omega arith) in
+      let v : min (i * width f) position ≡ i * width f = omega arith in
       let o = (N.planned.recorded i row_low.0).order in
-      let same : every (row_test table r f work base (order_in plan i)) upto ≡ every (λ k. number_ok (vertex_pair table r f (u_at r f (base + k)) (v_at f (base + k))) (get_or work (base + k) (pos 0))) upto = every_ext _ _ upto (λ k q. let s : k < width f = omega arith in rw (e, digits_div i s, digits_mod i s, o)) in
+      let same : every (row_test table r f work (i * width f) (order_in plan i)) upto ≡ every (λ k. number_ok (vertex_pair table r f (u_at r f (i * width f + k)) (v_at f (i * width f + k))) (get_or work (i * width f + k) (pos 0))) upto = every_ext _ _ upto (λ k q. let s : k < width f = omega arith in rw (digits_div i s, digits_mod i s, o)) in
       rw (u, every_sum, a, v, b, same)
 
-pub row_first : (w : ℕ) → 0 ≡ 0 * w
-row_first w = omega arith
-
-pub row_next : (i base w : ℕ) → base ≡ i * w → base + w ≡ (i + 1) * w
-row_next i base w e = rw (e, add-one i) (next i w)
-  where
-    next : (i w : ℕ) → i * w + w ≡ suc i * w
-    next i w = omega arith
-
-pub work_none : (table r f : List ℕ) (work : List ℤ) (position : ℕ) → true ≡ work_ok table r f work (min 0 position)
+pub work_none : (table r f : List ℕ) (work : List ℤ) (position : ℕ) → true ≡ work_ok table r f work (min (0 * width f) position)
 unfolding work_ok every
-work_none table r f work position = let e : min 0 position ≡ 0 = omega arith in rw e
-
-pub work_end : (table r f : List ℕ) (work : List ℤ) (base position : ℕ) (ok : Bool) → position ≤ base → ok ≡ work_ok table r f work (min base position) → ok ≡ work_ok table r f work position
-work_end table r f work base position ok l h = let e : min base position ≡ position = omega arith in rw e at h
+work_none table r f work position = let e : min (0 * width f) position ≡ 0 = omega arith in rw e

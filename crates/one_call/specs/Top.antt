@@ -1,10 +1,10 @@
 -- The largest value with s = v over any work numbers: what the search for it knows on its way, and that it is the model's. Assumes nothing.
-use Rattle.std.specs.Prelude.{◌≡◌, refl, ◌⊎◌, ◌≢◌, Bool, true, false, cond, List, get_or, length, T, ltb, ℤ, pos, negsuc}
-use Rattle.std.proofs.Common.{sym, ◌∙◌, arith, mul-le-mul, lt-ltb, le-ltb}
+use Rattle.std.specs.Prelude.{◌≡◌, refl, ◌⊎◌, ◌≢◌, Bool, true, false, cond, List, get_or, length, T, ℤ, pos, negsuc, Option, MatchOption}
+use Rattle.std.proofs.Common.{sym, ◌∙◌, arith, mul-le-mul}
 use Rattle.std.proofs.Math.Path.{ap, subst}
 use Rattle.std.proofs.Math.Logic.{inl, inr, ⊎_elim}
 use Prim.Native.Nat.{ℕ, ◌+◌, ◌*◌, ◌≤◌, ◌<◌}
-use Rattle.foundations.specs.Tests.{same?, less?}
+use Rattle.foundations.specs.Tests.{same?}
 use Rattle.foundations.specs.Int.{up, int, canon}
 use Rattle.foundations.specs.Members.{mem, mem_here, mem_below, below_mem}
 use Rattle.model.specs.Weights.{Weight, none, some, weighed, is_forbidden, ◌⊑◌}
@@ -17,6 +17,7 @@ use Rattle.trees.specs.Positions.{index_own, position_low, offset_up, offset_all
 use Rattle.model.specs.Mapping.{num}
 use Rattle.model.specs.Values.{greatest, vertices, largest, recalled}
 use Rattle.plan.specs.Plan.{place_in, offset_in, Planned}
+use Rattle.one_call.specs.declared.top.Top.{Top}
 use Rattle.subtrees.specs.WeightLaws.{⊑_trans, ⊑_antisym, greatest_default, greatest_at, greatest_is}
 
 -- a work number as a weight, and the greater of 0 and it
@@ -53,15 +54,11 @@ pub record Raised (w u v x a b w' u' v' : ℕ) : Type 0 where
   pub new : x ≤ w'
   pub one : ((w' ≡ w) × (u' ≡ u) × (v' ≡ v)) ⊎ ((w < x) × (w' ≡ x) × (u' ≡ a) × (v' ≡ b))
 
-pub raised_of : {w u v x a b w' u' v' : ℕ} → w' ≡ cond (ltb w x) x w → u' ≡ cond (ltb w x) a u → v' ≡ cond (ltb w x) b v → Raised w u v x a b w' u' v'
-raised_of {w} {u} {v} {x} {a} {b} {w'} {u'} {v'} ew eu ev = ⊎_elim
-    (λ h. let k = lt-ltb w x h in
-    let p : w' ≡ x = ew ∙ rw k in
-    record { old = omega arith; new = omega arith; one = inr (h, p, eu ∙ rw k, ev ∙ rw k) })
-    (λ h. let k = le-ltb w x h in
-    let p : w' ≡ w = ew ∙ rw k in
-    record { old = omega arith; new = omega arith; one = inl (p, eu ∙ rw k, ev ∙ rw k) })
-    (less? w x)
+pub raised_over : {w u v x : ℕ} (a b : ℕ) → w < x → Raised w u v x a b x a b
+raised_over a b h = record { old = omega arith; new = omega arith; one = inr (h, refl, refl, refl) }
+
+pub raised_not : {w u v x : ℕ} (a b : ℕ) → x ≤ w → Raised w u v x a b w u v
+raised_not a b h = record { old = omega arith; new = h; one = inl (refl, refl, refl) }
 
 -- pairs (a, b) are done for a below i, and for a = i and b below j
 abbrev Done : ℕ → ℕ → ℕ → ℕ → Type 0
@@ -123,9 +120,6 @@ module _ (r f : List ℕ) (work : List ℤ) where
   pub top_pair : (i w u v : ℕ) → TopOf r f work i 0 w u v → w ≢ 0 → (u < count r) × (v < count f)
   top_pair i w u v t z = ⊎_elim (λ q. absurd (z q)) (λ q. (q.0, q.1)) t.there
 
-  pub top_end : (i k w u v : ℕ) → TopOf r f work i 0 w u v → i ≡ k → TopOf r f work k 0 w u v
-  top_end i k w u v t e = subst (λ (x : ℕ). TopOf r f work x 0 w u v) e t
-
   -- of all pairs it is the model's largest
   pub top_largest : (i w u v : ℕ) → TopOf r f work i 0 w u v → i ≡ count r → largest r f (recalled r f work) ≡ pos w
   unfolding largest num
@@ -153,6 +147,10 @@ module _ (r f : List ℕ) (work : List ℤ) where
           (subst (λ (y : Weight). y ⊑ inner u) z.2 (greatest_at (vertices f) (λ b. recalled r f work u b b) none v (below_mem (λ y. true) (count f) v z.1 refl)))
           (greatest_at (vertices r) inner (some (pos 0)) u (below_mem (λ y. true) (count r) u z.0 refl)))
           t.there
+
+-- where no value is above 0 none, else one with the largest value
+abbrev pub Largest : List ℕ → List ℕ → List ℤ → Option Top → Type 0
+Largest r f work o = MatchOption o (TopOf r f work (count r) 0 0 0 0) (λ t. (t.weight ≢ 0) × TopOf r f work (count r) 0 t.weight t.u t.v)
 
 -- ---- all recorded vertices
 

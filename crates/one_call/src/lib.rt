@@ -7,15 +7,16 @@ ghost use Rattle.std.specs.Prelude.{◌≤◌, ◌-◌, ◌≡◌, length};
 ghost use Rattle.model.specs.Tree.{count};
 ghost use Rattle.model.specs.Calls.{match_item};
 ghost use Rattle.model.specs.Match.{MatchCall};
-ghost use Rattle.plan.specs.Plan.{Ready, Lent};
+ghost use Rattle.plan.specs.Plan.{Lent};
 ghost use Rattle.one_call.specs.Call.{Solved};
 
 use crate::top::largest;
 use formats::tree::vertex_count;
 use job_items::start_item;
 use model::{Limits, MatchAnswer};
+use plan::Blocks;
 use plan::counts::subproblem_count;
-use plan::{Blocks, Plan};
+use plan::instance::Instance;
 use planning::make;
 use readout::cycle::{clear, read_out};
 use solver::fill::fill;
@@ -35,32 +36,19 @@ fn match_item(table: &[u8], recorded: &[u8], found: &[u8], work: &[i32], mapping
 }
 
 // Solves every subproblem and reads a heaviest mapping out; the answer is its weight.
-pub fn solve_and_read(
-    table: &[u8],
-    recorded: &[u8],
-    found: &[u8],
-    plan: &Plan,
-    work: &mut [i32],
-    mapping: &mut [u8],
-) -> i32
-    requires ready { Ready table.now recorded.now found.now plan.now }
-    requires lent { Lent recorded.now found.now work.old }
-    requires recorded_in_bounds { count recorded.now ≤ length mapping.old }
-    ensures { Solved table.now recorded.now found.now work.old mapping.old work.new mapping.new result }
+pub fn solve_and_read(on: &Instance, work: &mut [i32], mapping: &mut [u8]) -> i32
+    requires lent { Lent on.now.recorded.now on.now.found.now work.old }
+    requires recorded_in_bounds { count on.now.recorded.now ≤ length mapping.old }
+    ensures { Solved on.now.table.now on.now.recorded.now on.now.found.now work.old mapping.old work.new mapping.new result }
 {
-    let count = subproblem_count(recorded, found);
-    fill(table, recorded, found, plan, work, 0, count);
-    let t = largest(work, plan, recorded, found);
-    let w = t.weight;
-    let empty = w == 0;
-    if empty {
-        clear(mapping, vertex_count(recorded));
+    let count = subproblem_count(on.recorded, on.found);
+    fill(on, work, 0, count);
+    let Some(top) = largest(on, work) else {
+        clear(mapping, on.n());
         return 0;
-    }
-    let u = t.u;
-    let v = t.v;
-    read_out(table, recorded, found, plan, work, u, v, mapping);
-    w as i32
+    };
+    read_out(on, work, top.u, top.v, mapping);
+    top.weight as i32
 }
 
 // Entry point.
@@ -81,6 +69,12 @@ pub fn match_trees(
     }
     let mut plan = [[0u8; Limits::PLACES]; Blocks::ALL];
     make(&mut plan, recorded, found);
-    let w = solve_and_read(table, recorded, found, &plan, work, mapping);
+    let on = Instance {
+        table,
+        recorded,
+        found,
+        plan: &plan,
+    };
+    let w = solve_and_read(&on, work, mapping);
     MatchAnswer::Found(w)
 }

@@ -1,6 +1,6 @@
 -- What storing the front of a certificate leaves. Assumes nothing.
 use Rattle.std.specs.Prelude.{◌≡◌, true, List, ℕ, ◌+◌, ◌<◌, length, get_or, set, ℤ}
-use Rattle.std.proofs.Common.{◌∙◌, subst, inl, ⊎_elim, arith, not-suc-le-zero, below_more, length-set, get_or-set_same, get_or-set_other}
+use Rattle.std.proofs.Common.{◌∙◌, inl, ⊎_elim, arith, not-suc-le-zero, below_more, length-set, get_or-set_same, get_or-set_other}
 use Rattle.model.specs.Bytes.{byte_at, is_mark, int32_at}
 use Rattle.model.specs.Certificate.{head_mark, partner_mark, partner_at}
 use Rattle.model.specs.Lengths.{certificate_head_length, partner_length}
@@ -81,9 +81,6 @@ partners_more {at} {i} {p} {z} {y} {x} e R M =
           N.partner;
       kept = kept_both (kept_wide (omega arith) (omega arith) R.kept) (kept_wide (omega arith) (omega arith) N.kept);
     }
-
-pub partners_end : {i n : ℕ} {p z y : List ℕ} → PartnersPut i p z y → i ≡ n → PartnersPut n p z y
-partners_end {i} {n} {p} {z} {y} R e = subst (λ (k : ℕ). PartnersPut k p z y) e R
 
 pub front_put : {n m : ℕ} {v w : ℤ} {p z0 z1 z2 : List ℕ} → v ≡ w → HeadPut n m v z0 z1 → PartnersPut n p z1 z2 → FrontPut n m w p z0 z2
 front_put e H P =

@@ -1,8 +1,7 @@
 -- What storing a mark, a number, a row of duals and a record leaves. Assumes nothing.
-use Rattle.std.specs.Prelude.{◌≡◌, ◌≢◌, true, List, ℕ, ◌+◌, ◌*◌, ◌≤◌, ◌<◌, length, get_or, set, ℤ, pos}
-use Rattle.std.proofs.Common.{◌∙◌, subst, inl, ⊎_elim, arith, not-suc-le-zero, below_more, length-set, get_or-set_same, get_or-set_other, SFits}
+use Rattle.std.specs.Prelude.{◌≡◌, true, List, ℕ, ◌+◌, ◌*◌, ◌≤◌, ◌<◌, length, get_or, ℤ, pos}
+use Rattle.std.proofs.Common.{◌∙◌, inl, arith, not-suc-le-zero, below_more, SFits}
 use Rattle.std.specs.Int.{w32}
-use Rattle.foundations.specs.Tests.{eqb_same}
 use Rattle.model.specs.Lengths.{subproblem_length}
 use Rattle.model.specs.Limits.{degree_limit, dual_limit}
 use Rattle.model.specs.Bytes.{is_mark, int32_at, put_int32}
@@ -35,35 +34,14 @@ pub record RecordPut (k : ℕ) (w : ℤ) (y : List ℕ) (n : ℕ) (x : List ℕ)
   pub of_other : (j : ℕ) → j < l → int32_at z' (k + 6 + 4 * n + 4 * j) ≡ pos (get_or x j 0)
   pub kept : Kept k (k + subproblem_length n l) z z'
 
-pub mark_put : (k : ℕ) (m z : List ℕ) → k + 2 ≤ length z → MarkPut k m z (set (set z k (get_or m 0 0)) (k + 1) (get_or m 1 0))
-mark_put k m z h =
-    let a = get_or m 0 0 in
-    let b = get_or m 1 0 in
-    let h0 : k < length z = omega arith in
-    let h1 : k + 1 < length (set z k a) = simp length-set (omega arith) in
-    let ne : k ≢ k + 1 = λ q. omega (arith, q) in
-    let p : get_or (set (set z k a) (k + 1) b) k 0 ≡ a = get_or-set_other (set z k a) (k + 1) k b 0 ne ∙ get_or-set_same z k a 0 h0 in
-    let q : get_or (set (set z k a) (k + 1) b) (k + 1) 0 ≡ b = get_or-set_same (set z k a) (k + 1) b 0 h1 in
+-- the number as the code has it is v
+pub number_put : {k : ℕ} {v w : ℤ} {z z' : List ℕ} → k + 4 ≤ length z → SFits w32 w → v ≡ w → z' ≡ put_int32 z k v → NumberPut k w z z'
+number_put {k} {v} {w} {z} {z'} h f q e =
+    let d : z' ≡ put_int32 z k w = rw q at e in
     record {
-      mark = rw (p, q, eqb_same a, eqb_same b);
-      kept = record {
-        size = simp length-set;
-        apart = λ i o.
-            let n0 : i ≢ k = λ q. ⊎_elim (λ l. omega (arith, q)) (λ l. omega (arith, q)) o in
-            let n1 : i ≢ k + 1 = λ q. ⊎_elim (λ l. omega (arith, q)) (λ l. omega (arith, q)) o in
-            get_or-set_other (set z k a) (k + 1) i b 0 n1 ∙ get_or-set_other z k i a 0 n0;
-      };
+      number = rw d (read_put z k w h f);
+      kept = record { size = rw d (put_length z k w); apart = λ i o. rw d (put_other z k w i o) };
     }
-
-pub number_put : (k : ℕ) (w : ℤ) (z z' : List ℕ) → k + 4 ≤ length z → SFits w32 w → z' ≡ put_int32 z k w → NumberPut k w z z'
-number_put k w z z' h f e =
-    record {
-      number = rw e (read_put z k w h f);
-      kept = record { size = rw e (put_length z k w); apart = λ i o. rw e (put_other z k w i o) };
-    }
-
-pub number_as : {k : ℕ} {a b : ℤ} {z z' : List ℕ} → a ≡ b → NumberPut k a z z' → NumberPut k b z z'
-number_as e N = record { number = N.number ∙ e; kept = N.kept }
 
 -- ---- a row
 
@@ -80,9 +58,6 @@ row_more {k} {i} {duals} {z} {y} {x} R N =
           N.number;
       kept = kept_both (kept_wide (omega arith) (omega arith) R.kept) (kept_wide (omega arith) (omega arith) N.kept);
     }
-
-pub row_end_lem : {k i n : ℕ} {duals z y : List ℕ} → RowPut k i duals z y → i ≡ n → RowPut k n duals z y
-row_end_lem {k} {i} {n} {duals} {z} {y} R e = subst (λ (m : ℕ). RowPut k m duals z y) e R
 
 -- ---- a record
 

@@ -1,9 +1,8 @@
 -- The steps of reading out in the terms of the code, for inputs that items 1 to 12, 25 and 26 let pass. Assumes nothing.
-use Rattle.std.specs.Prelude.{◌≡◌, ◌≢◌, List, ◌++◌, ℕ, suc, ◌+◌, ◌-◌, ◌≤◌, ◌<◌, get_or, length, set, take, drop, replicate, ℤ}
-use Rattle.std.proofs.Common.{sym, ap, ◌∙◌, subst, arith, add-one, length-append, length-drop, drop-cons, take_at, drop_at}
-use Rattle.std.proofs.lemmas.List.{length-replicate, get_or-replicate, replicate-append-replicate, set_at}
+use Rattle.std.specs.Prelude.{◌≡◌, ◌≢◌, List, ◌++◌, ℕ, ◌+◌, ◌-◌, ◌≤◌, ◌<◌, get_or, length, set, take, drop, replicate, ℤ}
+use Rattle.std.proofs.Common.{sym, ap, ◌∙◌, subst, arith, length-append, length-drop, take_at, drop_at}
+use Rattle.std.proofs.lemmas.List.{length-replicate, get_or-replicate}
 use Rattle.std.proofs.Math.ListN.{get_or-append}
-use Rattle.std.proofs.Math.Seq.{append_snoc}
 use Rattle.foundations.specs.Members.{mem_here}
 use Rattle.model.specs.Calls.{input_item}
 use Rattle.model.specs.Graph.{neighbours}
@@ -34,17 +33,9 @@ pub record ReadOut (table r f : List ℕ) (work : List ℤ) (u v : ℕ) (p q : L
   pub read : Read table r f work u v v (replicate (count r) no_vertex) (take (count r) q)
   pub rest : drop (count r) q ≡ drop (count r) p
 
--- what is cleared keeps its size, and one byte more is cleared
+-- what is cleared keeps its size
 pub clear_size : (a : ℕ) (d : List ℕ) (i : ℕ) → i ≤ length d → length (replicate i a ++ drop i d) ≡ length d
 clear_size a d i h = length-append (replicate i a) (drop i d) ∙ omega (arith, length-replicate i a, length-drop i d)
-
-pub clear_more : (a : ℕ) (d : List ℕ) (i : ℕ) → i < length d → set (replicate i a ++ drop i d) i a ≡ replicate (i + 1) a ++ drop (i + 1) d
-clear_more a d i h =
-    ap (λ (m : List ℕ). set (replicate i a ++ m) i a) (drop-cons d i 0 h)
-    ∙ set_at (replicate i a) (get_or d i 0) (drop (suc i) d) a i (length-replicate i a)
-    ∙ sym (append_snoc (replicate i a) a (drop (suc i) d))
-    ∙ ap (λ (m : List ℕ). m ++ drop (suc i) d) (replicate-append-replicate i 1 a)
-    ∙ ap (λ (k : ℕ). replicate (i + 1) a ++ drop k d) (sym (add-one i))
 
 -- by the plan
 pub branch_pairs : {table r f : List ℕ} {plan : List (List ℕ)} {work : List ℤ} {u v s n : ℕ} {mates : List ℕ} → Ready table r f plan → u < count r → n ≡ child_count_in plan u → ChoiceAt table r f work u v s mates → BranchPairs table r f work u v s n (child_in plan u) mates

@@ -1,7 +1,10 @@
 -- Work numbers written one after the other, and what those of a pair of vertices are. Assumes nothing.
-use Rattle.std.specs.Prelude.{◌≡◌, refl, ◌≢◌, true, cond, List, ℕ, zero, suc, ◌+◌, ◌≤◌, ◌<◌, ◌^◌, length, set, eqb, ℤ}
+use Rattle.std.specs.Prelude.{◌≡◌, refl, ◌≢◌, true, cond, List, [], ℕ, zero, suc, ◌+◌, ◌≤◌, ◌<◌, ◌^◌, length, set, eqb, ℤ}
 use Rattle.std.proofs.Common.{sym, ap, ◌∙◌, ⊎_elim, arith, add-one, length-set, set-set, eq-eqb, ne_eqb}
 use Rattle.std.proofs.lemmas.List.{set_comm}
+use Rattle.std.proofs.lemmas.List.Edits.{paste_none, fill_from_more}
+use Rattle.std.proofs.Math.ListN.{replicate}
+use Rattle.std.proofs.Math.Seq.{paste}
 use Rattle.foundations.specs.Tests.{same?}
 use Rattle.model.specs.Weights.{in_range, stored}
 use Rattle.model.specs.Values.{solve, fill}
@@ -31,6 +34,12 @@ written_ext : (work : List ℤ) (k n : ℕ) (v w : ℕ → ℤ) → ((i : ℕ) �
 unfolding written
 written_ext work k zero v w h = refl
 written_ext work k (suc n) v w h = rw (written_ext work k n v w (λ i l. h i (omega arith)), h n (omega arith))
+
+-- the same number in each
+pub written_same : (work : List ℤ) (k n : ℕ) (x : ℤ) → k + n ≤ length work → paste work k (replicate n x) n ≡ written work k n (λ i. x)
+unfolding written
+written_same work k zero x h = sym (paste_none work k [])
+written_same work k (suc n) x h = rw (← written_same work k n x (omega arith)) (rw add-one at (sym (fill_from_more work k n x (omega arith))))
 
 -- one of them written over
 pub written_over : (work : List ℤ) (k n j : ℕ) (v w : ℕ → ℤ) → j < n → ((i : ℕ) → i < n → i ≢ j → w i ≡ v i) → set (written work k n v) (k + j) (w j) ≡ written work k n w

@@ -13,11 +13,17 @@ returns-then-i-ne0 c =
     let e = c.input_item-i.ensures in
     e ∙ sym (start_input a.table.now a.recorded.now a.found.now a.work.now (λ z. c.if-i-ne0.true (e ∙ z)))
 
-pub subproblem_count-requires : goal.subproblem_count-requires
-subproblem_count-requires c =
+pub subproblem_count-requires-clause-sound : goal.subproblem_count-requires-clause-sound
+subproblem_count-requires-clause-sound c =
     let passes : let a = c.args in
     input_item a.table.now a.recorded.now a.found.now ≡ 0 = let z : c.input_item-i.result ≡ 0 = search rules in sym c.input_item-i.ensures ∙ z in
-    let q = input_sound _ _ _ (passes) in record { sound = q.0; sound_2 = q.1 }
+    let q = input_sound _ _ _ (passes) in q.0
+
+pub subproblem_count-requires-clause-sound_2 : goal.subproblem_count-requires-clause-sound_2
+subproblem_count-requires-clause-sound_2 c =
+    let passes : let a = c.args in
+    input_item a.table.now a.recorded.now a.found.now ≡ 0 = let z : c.input_item-i.result ≡ 0 = search rules in sym c.input_item-i.ensures ∙ z in
+    let q = input_sound _ _ _ (passes) in q.1
 
 pub returns-then-work-subproblem_count : goal.returns-then-work-subproblem_count
 returns-then-work-subproblem_count c =

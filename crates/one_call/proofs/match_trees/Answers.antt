@@ -21,20 +21,40 @@ returns-then-item-ne0 c =
     let e = c.match_item-item.ensures in
     record { refused = λ n. record { given = ap Refused e; number = refused_number (ap Refused e); weighs = refused_weight (ap Refused e); work_kept = refl; mapping_kept = refl }; matched = λ z. absurd (c.if-item-ne0.true (e ∙ z)) }
 
-pub make-requires : goal.make-requires
-make-requires c =
+pub make-requires-clause-sound : goal.make-requires-clause-sound
+make-requires-clause-sound c =
     let zero : let a = c.args in match_item a.table.now a.recorded.now a.found.now a.work.now a.mapping.now ≡ 0 = let z : c.match_item-item.result ≡ 0 = search rules in sym c.match_item-item.ensures ∙ z in
     let passed : let a = c.args in
     (input_item a.table.now a.recorded.now a.found.now ≡ 0) × (subproblems a.recorded.now a.found.now ≤ length a.work.now) × (count a.recorded.now ≤ length a.mapping.now) = let a = c.args in match_passed a.table.now a.recorded.now a.found.now a.work.now a.mapping.now (zero) in
-    let q = input_sound _ _ _ (passed).0 in record { plan_len = refl; sound = q.0; sound_2 = q.1 }
+    let q = input_sound _ _ _ (passed).0 in q.0
 
-pub solve_and_read-w-requires : goal.solve_and_read-w-requires
-solve_and_read-w-requires c =
+pub make-requires-clause-sound_2 : goal.make-requires-clause-sound_2
+make-requires-clause-sound_2 c =
     let zero : let a = c.args in match_item a.table.now a.recorded.now a.found.now a.work.now a.mapping.now ≡ 0 = let z : c.match_item-item.result ≡ 0 = search rules in sym c.match_item-item.ensures ∙ z in
     let passed : let a = c.args in
     (input_item a.table.now a.recorded.now a.found.now ≡ 0) × (subproblems a.recorded.now a.found.now ≤ length a.work.now) × (count a.recorded.now ≤ length a.mapping.now) = let a = c.args in match_passed a.table.now a.recorded.now a.found.now a.work.now a.mapping.now (zero) in
-    let p = passed in
-    record { ready = record { passes = p.0; planned = c.make.ensures }; lent = record { enough = p.1 }; recorded_in_bounds = p.2 }
+    let q = input_sound _ _ _ (passed).0 in q.1
+
+pub invariant_of-on : goal.invariant_of-on
+invariant_of-on c =
+    let zero : let a = c.args in match_item a.table.now a.recorded.now a.found.now a.work.now a.mapping.now ≡ 0 = let z : c.match_item-item.result ≡ 0 = search rules in sym c.match_item-item.ensures ∙ z in
+    let passed : let a = c.args in
+    (input_item a.table.now a.recorded.now a.found.now ≡ 0) × (subproblems a.recorded.now a.found.now ≤ length a.work.now) × (count a.recorded.now ≤ length a.mapping.now) = let a = c.args in match_passed a.table.now a.recorded.now a.found.now a.work.now a.mapping.now (zero) in
+    record { ready = record { passes = passed.0; planned = c.make.ensures } }
+
+pub solve_and_read-w-requires-clause-lent : goal.solve_and_read-w-requires-clause-lent
+solve_and_read-w-requires-clause-lent c =
+    let zero : let a = c.args in match_item a.table.now a.recorded.now a.found.now a.work.now a.mapping.now ≡ 0 = let z : c.match_item-item.result ≡ 0 = search rules in sym c.match_item-item.ensures ∙ z in
+    let passed : let a = c.args in
+    (input_item a.table.now a.recorded.now a.found.now ≡ 0) × (subproblems a.recorded.now a.found.now ≤ length a.work.now) × (count a.recorded.now ≤ length a.mapping.now) = let a = c.args in match_passed a.table.now a.recorded.now a.found.now a.work.now a.mapping.now (zero) in
+    let p = passed in record { enough = p.1 }
+
+pub solve_and_read-w-requires-clause-recorded_in_bounds : goal.solve_and_read-w-requires-clause-recorded_in_bounds
+solve_and_read-w-requires-clause-recorded_in_bounds c =
+    let zero : let a = c.args in match_item a.table.now a.recorded.now a.found.now a.work.now a.mapping.now ≡ 0 = let z : c.match_item-item.result ≡ 0 = search rules in sym c.match_item-item.ensures ∙ z in
+    let passed : let a = c.args in
+    (input_item a.table.now a.recorded.now a.found.now ≡ 0) × (subproblems a.recorded.now a.found.now ≤ length a.work.now) × (count a.recorded.now ≤ length a.mapping.now) = let a = c.args in match_passed a.table.now a.recorded.now a.found.now a.work.now a.mapping.now (zero) in
+    let p = passed in p.2
 
 pub returns : goal.returns
 returns c =

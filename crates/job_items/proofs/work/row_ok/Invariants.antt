@@ -8,7 +8,7 @@ use Rattle.job_items.specs.Work.{row_test}
 use Rattle.job_items.proofs.work.row_ok.Given as goal
 
 abbrev pub invariant-loop-k : goal.invariant-loop-k
-invariant-loop-k l = (l.v ≤ count l.found) × (l.k ≡ min (offset l.found l.v) l.upto) × (l.ok ≡ every (row_test l.table l.recorded l.found l.work l.base l.u) l.k)
+invariant-loop-k l = (l.v ≤ count l.on.found.now) × (l.k ≡ min (offset l.on.found.now l.v) l.upto) × (l.ok ≡ every (row_test l.on.table.now l.on.recorded.now l.on.found.now l.work l.base l.u) l.k)
 
 abbrev pub decreases-loop-k : goal.decreases-loop-k
 decreases-loop-k l = l.upto - l.k

@@ -3,16 +3,14 @@ use Rattle.solver.specs.Bound.{begins, search_most}
 use Rattle.assignment.specs.Counts.{Searches}
 use Rattle.plan.specs.Plan.{offset_in}
 use Rattle.plan.specs.Numbers.{Located}
-use Rattle.model.specs.Limits.{pair_limit}
 use Rattle.model.specs.Values.{fill}
 use Prim.Native.Nat.{◌+◌, ◌≤◌, ◌<◌, ◌-◌}
-use lib.ListN.{length}
 use mathlib.Core.Bool.{true}
 use mathlib.Core.Path.{◌≡◌}
 use Rattle.solver.proofs.fill.fill_row.Given as goal
 
 abbrev pub invariant-loop-i : goal.invariant-loop-i
-invariant-loop-i l = (l.i ≤ l.count) × (l.work ≡ fill l.table l.recorded l.found l.initial.work l.from l.i) × (l.i < l.count → Located (offset_in l.plan) l.m (l.first + l.i) l.v × (l.q ≡ l.first + l.i - offset_in l.plan l.v)) × (length l.g ≡ pair_limit) × (0 < l.i → l.i < l.count → begins l.found (l.from + l.i) ≡ true) × Searches (search_most l.recorded l.found l.from l.i) l.initial.counts l.counts
+invariant-loop-i l = (l.i ≤ l.count) × (l.work ≡ fill l.on.table.now l.on.recorded.now l.on.found.now l.initial.work l.from l.i) × (l.i < l.count → Located (offset_in l.on.plan.now) l.m (l.first + l.i) l.v × (l.q ≡ l.first + l.i - offset_in l.on.plan.now l.v)) × (0 < l.i → l.i < l.count → begins l.on.found.now (l.from + l.i) ≡ true) × Searches (search_most l.on.recorded.now l.on.found.now l.from l.i) l.initial.scratch.counts l.scratch.counts
 
 abbrev pub decreases-loop-i : goal.decreases-loop-i
 decreases-loop-i l = l.count - l.i

@@ -1,25 +1,18 @@
 -- `repeat` meets its contract. Assumes nothing.
-use Rattle.solver.specs.Numbers.{written_none, written_next, length_written}
-use mathlib.Core.Path.{◌≡◌, refl, ap, ◌∙◌}
-use lib.ListN.{length}
+use Rattle.std.proofs.Common.{◌≡◌, ◌+◌, ◌-◌, length, take, drop, sym, ◌∙◌, rules, arith}
+use Rattle.std.proofs.Math.ListN.{replicate, length-replicate, length-take, length-drop}
+use Rattle.std.proofs.lemmas.Slice.{put_mid-paste}
 use Rattle.foundations.specs.Machine.{Same}
-use borrow.Author.Rules.{rules}
-use native.Mathlib.Omega.{arith}
+use Rattle.solver.specs.Numbers.{written_same}
 use Rattle.solver.proofs.fill.repeat.Goals as goal
-
-pub loop-i-init : goal.loop-i-init
-loop-i-init c = (omega arith, refl, written_none _ _ _)
-
-pub loop-i-preserved : goal.loop-i-preserved
-loop-i-preserved c =
-    let e = written_next _ _ _ _ (λ j. _) _ c.loop-i.invariant.2 refl in
-    (omega arith, ap length e ∙ length_written _ _ _ _, e)
-
-pub shape_of-work : goal.shape_of-work
-shape_of-work c = c.loop-i.invariant.1
 
 pub returns : goal.returns
 returns c =
+    let a = c.args.run in
+    let work = c.args.work.now in
     let b : Same c.args.x = search rules in
-    let e : c.loop-i.i ≡ c.args.count = omega arith in
-    rw (e, b) at c.loop-i.invariant.2
+    let n : a.from + a.count - a.from ≡ a.count = omega arith in
+    let long : length (take (a.from + a.count - a.from) (drop a.from work)) ≡ a.count = simp (length-take, length-drop) (omega arith) in
+    let e = c.fill.ensures.after (λ y h. h) in
+    put_mid-paste a.from _ work c.fill.new.self (replicate a.count c.args.x) a.count (rw (long, b) at e) (sym n) (sym (length-replicate a.count c.args.x))
+    ∙ written_same work a.from a.count c.args.x c.requires

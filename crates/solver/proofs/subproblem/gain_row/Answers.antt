@@ -1,6 +1,6 @@
 -- `gain_row` meets its contract. Assumes nothing.
 use Prim.Native.Nat.{◌+◌, ◌*◌, ◌≤◌, ◌<◌}
-use mathlib.Core.Path.{◌≡◌, ◌∙◌}
+use mathlib.Core.Path.{◌∙◌}
 use native.Mathlib.Nat.{mul-le-mul}
 use native.Mathlib.Omega.{arith}
 use lib.ListN.{length, get_or}
@@ -15,60 +15,63 @@ use Rattle.solver.specs.Branches.{work_low, work_gain}
 use Rattle.solver.proofs.subproblem.gain_row.Goals as goal
 
 pub child_place-requires : goal.child_place-requires
-child_place-requires c = ((pair_low c.requires.ready c.requires.pair).0, omega (arith, c.requires.i_in_bounds, children_few c.requires.ready c.requires.pair))
+child_place-requires c = ((pair_low c.args.on.now.ready c.requires.pair).0, omega (arith, c.requires.i_in_bounds, children_few c.args.on.now.ready c.requires.pair))
 
 pub overflow_mul-base : goal.overflow_mul-base
 overflow_mul-base c =
-    let low = child_place_low c.requires.ready c.requires.pair _ c.requires.i_in_bounds in
-    let few = (ready_accepted c.requires.ready).recorded.ends.few in
+    let low = child_place_low c.args.on.now.ready c.requires.pair _ c.requires.i_in_bounds in
+    let few = (ready_accepted c.args.on.now.ready).recorded.ends.few in
     let a : c.child_place.result ≤ vertex_limit = rw c.child_place.ensures (omega (arith, low, few)) in
-    let b : c.args.of.width ≤ width_limit = rw c.requires.shared_of.wide (width_few c.requires.ready) in
+    let b : c.args.of.width ≤ width_limit = rw c.requires.shared_of.wide (width_few c.args.on.now.ready) in
     let m : c.child_place.result * c.args.of.width ≤ vertex_limit * width_limit = mul-le-mul a b in
     omega arith
 
 pub child_edge-label-requires : goal.child_edge-label-requires
-child_edge-label-requires c = ((pair_low c.requires.ready c.requires.pair).0, omega (arith, c.requires.i_in_bounds, children_few c.requires.ready c.requires.pair))
+child_edge-label-requires c = ((pair_low c.args.on.now.ready c.requires.pair).0, omega (arith, c.requires.i_in_bounds, children_few c.args.on.now.ready c.requires.pair))
 
 pub degree-l-requires : goal.degree-l-requires
-degree-l-requires c = (pair_low c.requires.ready c.requires.pair).1
+degree-l-requires c = (pair_low c.args.on.now.ready c.requires.pair).1
 
 pub loop-j-init : goal.loop-j-init
 loop-j-init c =
-    let d = c.degree-l.ensures ∙ degree_is c.requires.ready c.requires.pair in
-    (omega arith, omega (arith, d, degree_few c.requires.ready c.requires.pair), omega (arith, c.requires.i_in_bounds, children_few c.requires.ready c.requires.pair), d, rw (c.child_place.ensures, c.requires.shared_of.wide), c.child_edge-label.ensures, row_none _ _ _ c.requires.g_len)
+    let d = c.degree-l.ensures ∙ degree_is c.args.on.now.ready c.requires.pair in
+    (omega arith, omega (arith, d, degree_few c.args.on.now.ready c.requires.pair), omega (arith, c.requires.i_in_bounds, children_few c.args.on.now.ready c.requires.pair), d, rw (c.child_place.ensures, c.requires.shared_of.wide), c.child_edge-label.ensures, row_none _ _ _ (omega arith))
 
 pub neighbour_edge-requires : goal.neighbour_edge-requires
-neighbour_edge-requires c = ((pair_low c.requires.ready c.requires.pair).1, omega (arith, c.loop-j-test.true, c.loop-j.invariant.1))
+neighbour_edge-requires c = ((pair_low c.args.on.now.ready c.requires.pair).1, omega (arith, c.loop-j-test.true, c.loop-j.invariant.1))
 
-pub edge_pair-e-requires : goal.edge_pair-e-requires
-edge_pair-e-requires c =
-    let in_row : c.loop-j.j < length (neighbours c.args.found.now c.args.v) = omega (arith, c.loop-j-test.true, c.loop-j.invariant.3) in
-    record { table_passed = (ready_accepted c.requires.ready).weights; i_bound = (rw c.loop-j.invariant.5 (child_edge_low c.requires.ready c.requires.pair _ c.requires.i_in_bounds), rw c.neighbour_edge.ensures (edge_low c.requires.ready c.requires.pair _ c.requires.i_in_bounds _ (in_row))) }
+pub edge_pair-e-requires-clause-table_passed : goal.edge_pair-e-requires-clause-table_passed
+edge_pair-e-requires-clause-table_passed c =
+    let in_row : c.loop-j.j < length (neighbours c.args.on.now.found.now c.args.v) = omega (arith, c.loop-j-test.true, c.loop-j.invariant.3) in (ready_accepted c.args.on.now.ready).weights
+
+pub edge_pair-e-requires-clause-i_bound : goal.edge_pair-e-requires-clause-i_bound
+edge_pair-e-requires-clause-i_bound c =
+    let in_row : c.loop-j.j < length (neighbours c.args.on.now.found.now c.args.v) = omega (arith, c.loop-j-test.true, c.loop-j.invariant.3) in (rw c.loop-j.invariant.5 (child_edge_low c.args.on.now.ready c.requires.pair _ c.requires.i_in_bounds), rw c.neighbour_edge.ensures (edge_low c.args.on.now.ready c.requires.pair _ c.requires.i_in_bounds _ (in_row)))
 
 pub behind-requires : goal.behind-requires
-behind-requires c = ((pair_low c.requires.ready c.requires.pair).1, omega (arith, c.loop-j-test.true, c.loop-j.invariant.1))
+behind-requires c = ((pair_low c.args.on.now.ready c.requires.pair).1, omega (arith, c.loop-j-test.true, c.loop-j.invariant.1))
 
 pub overflow_add-base : goal.overflow_add-base
 overflow_add-base c =
-    let in_row : c.loop-j.j < length (neighbours c.args.found.now c.args.v) = omega (arith, c.loop-j-test.true, c.loop-j.invariant.3) in
-    let lent : c.child_place.result * c.args.of.width + c.behind.result < length c.args.work.now = omega (arith, work_low c.requires.ready c.requires.pair _ c.requires.i_in_bounds _ (in_row) c.requires.lent, c.loop-j.invariant.4, c.behind.ensures) in
+    let in_row : c.loop-j.j < length (neighbours c.args.on.now.found.now c.args.v) = omega (arith, c.loop-j-test.true, c.loop-j.invariant.3) in
+    let lent : c.child_place.result * c.args.of.width + c.behind.result < length c.args.work.now = omega (arith, work_low c.args.on.now.ready c.requires.pair _ c.requires.i_in_bounds _ (in_row) c.requires.lent, c.loop-j.invariant.4, c.behind.ensures) in
     omega (arith, lent)
 
 pub offset_bounds-work-base : goal.offset_bounds-work-base
 offset_bounds-work-base c =
-    let in_row : c.loop-j.j < length (neighbours c.args.found.now c.args.v) = omega (arith, c.loop-j-test.true, c.loop-j.invariant.3) in
-    let lent : c.child_place.result * c.args.of.width + c.behind.result < length c.args.work.now = omega (arith, work_low c.requires.ready c.requires.pair _ c.requires.i_in_bounds _ (in_row) c.requires.lent, c.loop-j.invariant.4, c.behind.ensures) in
+    let in_row : c.loop-j.j < length (neighbours c.args.on.now.found.now c.args.v) = omega (arith, c.loop-j-test.true, c.loop-j.invariant.3) in
+    let lent : c.child_place.result * c.args.of.width + c.behind.result < length c.args.work.now = omega (arith, work_low c.args.on.now.ready c.requires.pair _ c.requires.i_in_bounds _ (in_row) c.requires.lent, c.loop-j.invariant.4, c.behind.ensures) in
     omega (arith, lent)
 
 pub bounds-work-base : goal.bounds-work-base
 bounds-work-base c =
-    let in_row : c.loop-j.j < length (neighbours c.args.found.now c.args.v) = omega (arith, c.loop-j-test.true, c.loop-j.invariant.3) in
-    let lent : c.child_place.result * c.args.of.width + c.behind.result < length c.args.work.now = omega (arith, work_low c.requires.ready c.requires.pair _ c.requires.i_in_bounds _ (in_row) c.requires.lent, c.loop-j.invariant.4, c.behind.ensures) in
+    let in_row : c.loop-j.j < length (neighbours c.args.on.now.found.now c.args.v) = omega (arith, c.loop-j-test.true, c.loop-j.invariant.3) in
+    let lent : c.child_place.result * c.args.of.width + c.behind.result < length c.args.work.now = omega (arith, work_low c.args.on.now.ready c.requires.pair _ c.requires.i_in_bounds _ (in_row) c.requires.lent, c.loop-j.invariant.4, c.behind.ensures) in
     lent
 
 pub loop-j-preserved : goal.loop-j-preserved
 loop-j-preserved c =
-    let in_row : c.loop-j.j < length (neighbours c.args.found.now c.args.v) = omega (arith, c.loop-j-test.true, c.loop-j.invariant.3) in
+    let in_row : c.loop-j.j < length (neighbours c.args.on.now.found.now c.args.v) = omega (arith, c.loop-j-test.true, c.loop-j.invariant.3) in
     let a : Same c.edge_pair-e.result = back c.edge_pair-e.type_inv in
     let b : Same (get_or c.args.work.now (c.child_place.result * c.args.of.width + c.behind.result) (pos 0)) = search rules in
     let E = rw (c.loop-j.invariant.5, c.neighbour_edge.ensures) at c.edge_pair-e.ensures in (
@@ -79,11 +82,6 @@ loop-j-preserved c =
       c.loop-j.invariant.4,
       c.loop-j.invariant.5,
       row_more c.loop-j.j _ _ _ _ _ c.loop-j.invariant.2 (omega arith) c.loop-j.invariant.6
-          (work_gain c.requires.ready c.requires.pair _ c.requires.i_in_bounds _ (in_row) _ _ _ E (rw (a, b, c.loop-j.invariant.4, c.behind.ensures) at c.gain_of-q.ensures))
+          (work_gain c.args.on.now.ready c.requires.pair _ c.requires.i_in_bounds _ (in_row) _ _ _ E (rw (a, b, c.loop-j.invariant.4, c.behind.ensures) at c.gain_of-q.ensures))
           c.gain_of-q.ensures.small,
     )
-
-pub returns : goal.returns
-returns c =
-    let e : c.loop-j.j ≡ c.degree-l.result = omega arith in
-    rw (e, c.loop-j.invariant.3) at c.loop-j.invariant.6

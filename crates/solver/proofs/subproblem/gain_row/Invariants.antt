@@ -1,5 +1,5 @@
 -- `gain_row` meets its contract. Assumes nothing.
-use Prim.Native.Nat.{◌*◌, ◌≤◌, ◌<◌, ◌-◌}
+use Prim.Native.Nat.{◌*◌, ◌≤◌, ◌<◌}
 use mathlib.Core.Path.{◌≡◌}
 use lib.ListN.{length}
 use Rattle.model.specs.Graph.{neighbours}
@@ -12,8 +12,5 @@ use Rattle.solver.proofs.subproblem.gain_row.Given as goal
 
 abbrev pub invariant-loop-j : goal.invariant-loop-j
 invariant-loop-j l =
-    (l.j ≤ l.l) × (l.l ≤ degree_limit) × (l.i < degree_limit) × (l.l ≡ length (neighbours l.found l.v)) × (l.base ≡ child_place_in l.plan l.u l.i * width l.found) × (l.label ≡ child_edge_in l.plan l.u l.i)
-    × RowFilled l.j l.i (gain_at l.table l.recorded l.found (recalled l.recorded l.found l.work) l.u l.v l.i) l.initial.g l.g
-
-abbrev pub decreases-loop-j : goal.decreases-loop-j
-decreases-loop-j l = l.l - l.j
+    (l.j ≤ l.l) × (l.l ≤ degree_limit) × (l.i < degree_limit) × (l.l ≡ length (neighbours l.on.found.now l.v)) × (l.base ≡ child_place_in l.on.plan.now l.u l.i * width l.on.found.now) × (l.label ≡ child_edge_in l.on.plan.now l.u l.i)
+    × RowFilled l.j l.i (gain_at l.on.table.now l.on.recorded.now l.on.found.now (recalled l.on.recorded.now l.on.found.now l.work) l.u l.v l.i) l.initial.g l.g

@@ -6,7 +6,7 @@ use Rattle.solver.proofs.subproblem.name_or.Goals as goal
 
 pub returns-then-p-lt-DEGREE : goal.returns-then-p-lt-DEGREE
 unfolding name_or
-returns-then-p-lt-DEGREE c = rw (lt-ltb _ degree_limit c.if-p-lt-DEGREE.true) (rw c.wide.ensures at c.neighbour.ensures)
+returns-then-p-lt-DEGREE c = rw (lt-ltb _ degree_limit c.if-p-lt-DEGREE.true) (rw c.from.ensures at c.neighbour.ensures)
 
 pub returns-else-p-lt-DEGREE : goal.returns-else-p-lt-DEGREE
 unfolding name_or
