@@ -18,9 +18,10 @@ use Rattle.model.specs.Limits.{vertex_limit}
 use Rattle.model.specs.Order.{subproblems}
 use Rattle.model.specs.Tree.{count}
 use Rattle.records.specs.declared.cursor.Cursor.{Cursor}
-use Rattle.records.specs.Cursor.{CursorAt, Follows, Counted, steps}
-use Rattle.records.specs.Places.{Inputs, inputs_few}
-use Rattle.check_front.specs.declared.marks.Marks.{Marks}
+use Rattle.records.specs.declared.cursor.Walk.{Walk}
+use Rattle.records.specs.Cursor.{CursorAt, Follows, Counted, steps, walk_from, cursor_first}
+use Rattle.plan.specs.Plan.{Ready}
+use Rattle.records.specs.Places.{Inputs, ready_inputs, inputs_few}
 use Rattle.check_front.specs.Weighing.{PartnersOf}
 
 -- ---- record j: 0 is the head, then a partner for each recorded vertex, then the subproblems' records
@@ -67,46 +68,27 @@ module _ (r f : List ℕ) where
 
 -- ---- what is known after the first records
 
--- one record more
-abbrev pub moved_on : Marks → Bool → Cursor → Marks
-moved_on m here c = record { number = m.number + 1; count = m.count; ok = m.ok && here; cursor = c }
+-- one record more, of so many bytes
+abbrev pub moved_on : Walk → Bool → ℕ → Cursor → Walk
+moved_on w here long c = record { at = w.at + long; ok = w.ok && here; cursor = c }
 
--- so many are passed, and the next begins at `at`
-pub record Walked (r f z : List ℕ) (at : ℕ) (m : Marks) : Type 0 where
-  pub all : m.count ≡ count r + 1 + subproblems r f
-  pub place : at ≡ place_of r f m.number
-  pub seen : m.ok ≡ every (marked_at r f z) m.number
-  pub stands : CursorAt f (m.number - (count r + 1)) m.cursor.i m.cursor.v m.cursor.q
+-- j are passed, and the next begins at `at`
+pub record Walked (r f z : List ℕ) (j : ℕ) (w : Walk) : Type 0 where
+  pub place : w.at ≡ place_of r f j
+  pub seen : w.ok ≡ every (marked_at r f z) j
+  pub stands : CursorAt f (j - (count r + 1)) w.cursor.i w.cursor.v w.cursor.q
 
 -- and there is another, in a certificate of the right length
-pub record Stepping (r f : List ℕ) (plan : List (List ℕ)) (z : List ℕ) (at : ℕ) (m : Marks) : Type 0 where
+pub record Stepping (r f : List ℕ) (plan : List (List ℕ)) (z : List ℕ) (j : ℕ) (w : Walk) : Type 0 where
   pub inputs : Inputs r f plan
   pub long : length z ≡ certificate_length r f
-  pub walked : Walked r f z at m
-  pub more : m.number < m.count
-
--- one is passed
-pub record Stepped (r f z : List ℕ) (m : Marks) (next : ℕ) (n : Marks) : Type 0 where
-  pub number : n.number ≡ m.number + 1
-  pub count : n.count ≡ m.count
-  pub walked : Walked r f z next n
+  pub walked : Walked r f z j w
+  pub more : j < count r + 1 + subproblems r f
 
 -- none is passed yet
-pub record AtHead (r f : List ℕ) (next : ℕ) (m : Marks) : Type 0 where
-  pub place : next ≡ 0
-  pub number : m.number ≡ 0
-  pub all : m.count ≡ count r + 1 + subproblems r f
-  pub ok : m.ok ≡ true
-  pub first : CursorAt f 0 m.cursor.i m.cursor.v m.cursor.q
-
-pub walked_none : {r f : List ℕ} {next : ℕ} {m : Marks} (z : List ℕ) → AtHead r f next m → Walked r f z next m
+pub walked_none : {r f : List ℕ} {plan : List (List ℕ)} (z : List ℕ) → Inputs r f plan → Walked r f z 0 (walk_from 0)
 unfolding place_of every
-walked_none {r} {f} {next} {m} z H = record {
-  all = H.all;
-  place = H.place ∙ rw H.number;
-  seen = H.ok ∙ rw H.number;
-  stands = let e : m.number - (count r + 1) ≡ 0 = (let n = H.number in omega arith) in rw e H.first;
-}
+walked_none {r} z I = record { place = refl; seen = refl; stands = let e : 0 - (count r + 1) ≡ 0 = omega arith in rw e (cursor_first I) }
 
 -- ---- one record more
 
@@ -115,73 +97,69 @@ pub front_inside : (r f z : List ℕ) → length z ≡ certificate_length r f �
 unfolding certificate_length
 front_inside r f z e = omega arith
 
-pub stepped : {r f z : List ℕ} {at : ℕ} (m : Marks) (here : Bool) (c : Cursor) (next : ℕ) → Walked r f z at m → here ≡ marked_at r f z m.number → next ≡ place_of r f (m.number + 1) →
-    CursorAt f (m.number + 1 - (count r + 1)) c.i c.v c.q → Stepped r f z m next (moved_on m here c)
-stepped {r} {f} {z} m here c next W e p s = record {
-  number = refl;
-  count = refl;
-  walked = record { all = W.all; place = p; seen = every_step (marked_at r f z) m.number m.ok here W.seen e; stands = s };
-}
+pub stepped : {r f z : List ℕ} {j : ℕ} {w : Walk} (here : Bool) (c : Cursor) (long : ℕ) → Walked r f z j w → here ≡ marked_at r f z j → w.at + long ≡ place_of r f (j + 1) →
+    CursorAt f (j + 1 - (count r + 1)) c.i c.v c.q → Walked r f z (j + 1) (moved_on w here long c)
+stepped {r} {f} {z} {j} {w} here c long W e p s = record { place = p; seen = every_step (marked_at r f z) j w.ok here W.seen e; stands = s }
 
-module _ {r f : List ℕ} {plan : List (List ℕ)} {z : List ℕ} {at : ℕ} {m : Marks} (S : Stepping r f plan z at m) where
-  W : Walked r f z at m
+module _ {r f : List ℕ} {plan : List (List ℕ)} {z : List ℕ} {j : ℕ} {w : Walk} (S : Stepping r f plan z j w) where
+  W : Walked r f z j w
   W = S.walked
 
   -- up to the first record the cursor stays where it is
-  stays : m.number < count r + 1 → CursorAt f (m.number + 1 - (count r + 1)) m.cursor.i m.cursor.v m.cursor.q
+  stays : j < count r + 1 → CursorAt f (j + 1 - (count r + 1)) w.cursor.i w.cursor.v w.cursor.q
   stays h =
-      let a : m.number + 1 - (count r + 1) ≡ 0 = omega arith in
-      let b : m.number - (count r + 1) ≡ 0 = omega arith in
+      let a : j + 1 - (count r + 1) ≡ 0 = omega arith in
+      let b : j - (count r + 1) ≡ 0 = omega arith in
       rw (a, ← b) W.stands
 
   -- the head
-  module _ (e : m.number ≡ 0) where
-    pub head_at : (at ≡ 0) × (at + certificate_head_length ≤ length z)
+  module _ (e : j ≡ 0) where
+    pub head_at : (w.at ≡ 0) × (w.at + certificate_head_length ≤ length z)
     unfolding place_of
-    head_at = let a : at ≡ 0 = W.place ∙ rw e in let b = front_inside r f z S.long in (a, omega arith)
+    head_at = let a : w.at ≡ 0 = W.place ∙ rw e in let b = front_inside r f z S.long in (a, omega arith)
 
-    pub head_stepped : (here : Bool) (n k long : ℕ) → n ≡ count r → k ≡ count f → long ≡ certificate_head_length → here ≡ (is_mark z at head_mark && (eqb (byte_at z (at + 2)) n && eqb (byte_at z (at + 3)) k)) →
-        Stepped r f z m (at + long) (moved_on m here m.cursor)
+    pub head_stepped : (here : Bool) (n k long : ℕ) → n ≡ count r → k ≡ count f → long ≡ certificate_head_length → here ≡ (is_mark z w.at head_mark && (eqb (byte_at z (w.at + 2)) n && eqb (byte_at z (w.at + 3)) k)) →
+        Walked r f z (j + 1) (moved_on w here long w.cursor)
     head_stepped here n k long en ek el h =
-        stepped m here m.cursor (at + long) W
+        stepped here w.cursor long W
         (h ∙ rw (en, ek, head_at.0, e) (sym (marked_head r f z)))
         (rw (el, head_at.0, e) (sym (place_partner r f 0 (omega arith))))
         (stays (omega arith))
 
   -- a partner, of u
-  module _ (u : ℕ) (e : m.number ≡ u + 1) (l : u < count r) where
-    pub partner_at_lem : (at ≡ partner_at u) × (at + partner_length ≤ length z)
-    partner_at_lem = let a : at ≡ partner_at u = W.place ∙ rw e (place_partner r f u (omega arith)) in let b = front_inside r f z S.long in (a, omega arith)
+  module _ (u : ℕ) (e : j ≡ u + 1) (l : u < count r) where
+    pub partner_at_lem : (w.at ≡ partner_at u) × (w.at + partner_length ≤ length z)
+    partner_at_lem = let a : w.at ≡ partner_at u = W.place ∙ rw e (place_partner r f u (omega arith)) in let b = front_inside r f z S.long in (a, omega arith)
 
-    pub partner_stepped : (here : Bool) (long : ℕ) → long ≡ partner_length → here ≡ is_mark z at partner_mark → Stepped r f z m (at + long) (moved_on m here m.cursor)
+    pub partner_stepped : (here : Bool) (long : ℕ) → long ≡ partner_length → here ≡ is_mark z w.at partner_mark → Walked r f z (j + 1) (moved_on w here long w.cursor)
     partner_stepped here long el h =
         let next : partner_at u + partner_length ≡ partner_at (u + 1) = omega arith in
-        stepped m here m.cursor (at + long) W
+        stepped here w.cursor long W
         (h ∙ rw (partner_at_lem.0, e) (sym (marked_partner r f z u l)))
         (rw (el, partner_at_lem.0, e) (next ∙ sym (place_partner r f (u + 1) (omega arith))))
         (stays (omega arith))
 
   -- the record of subproblem k
-  module _ (k : ℕ) (e : m.number ≡ count r + 1 + k) where
+  module _ (k : ℕ) (e : j ≡ count r + 1 + k) where
     pub record_low : k < subproblems r f
-    record_low = let a = W.all in let b = S.more in omega arith
+    record_low = let b = S.more in omega arith
 
-    pub record_cursor : CursorAt f k m.cursor.i m.cursor.v m.cursor.q
-    record_cursor = let a : m.number - (count r + 1) ≡ k = omega arith in rw (← a) W.stands
+    pub record_cursor : CursorAt f k w.cursor.i w.cursor.v w.cursor.q
+    record_cursor = let a : j - (count r + 1) ≡ k = omega arith in rw (← a) W.stands
 
-    here_at : at ≡ record_at r f k
+    here_at : w.at ≡ record_at r f k
     here_at = W.place ∙ rw e (place_record r f k)
 
-    module _ {children others : ℕ} (N : Counted r f plan m.cursor.i m.cursor.v m.cursor.q children others) where
-      pub record_at_lem : at + subproblem_length children others ≤ length z
+    module _ {children others : ℕ} (N : Counted r f plan w.cursor.i w.cursor.v w.cursor.q children others) where
+      pub record_at_lem : w.at + subproblem_length children others ≤ length z
       record_at_lem = let a = (steps S.inputs record_cursor record_low N).ends in let b = S.long in let d = here_at in omega arith
 
-      pub record_stepped : (here : Bool) (long : ℕ) (c : Cursor) → long ≡ subproblem_length children others → here ≡ is_mark z at record_mark → Follows f m.cursor.i m.cursor.v m.cursor.q c.i c.v c.q →
-          Stepped r f z m (at + long) (moved_on m here c)
+      pub record_stepped : (here : Bool) (long : ℕ) (c : Cursor) → long ≡ subproblem_length children others → here ≡ is_mark z w.at record_mark → Follows f w.cursor.i w.cursor.v w.cursor.q c.i c.v c.q →
+          Walked r f z (j + 1) (moved_on w here long c)
       record_stepped here long c el h F =
-          let i : m.number + 1 ≡ count r + 1 + (k + 1) = omega arith in
+          let i : j + 1 ≡ count r + 1 + (k + 1) = omega arith in
           let d : count r + 1 + (k + 1) - (count r + 1) ≡ k + 1 = omega arith in
-          stepped m here c (at + long) W
+          stepped here c long W
           (h ∙ rw (here_at, e) (sym (marked_record r f z k)))
           (rw (el, here_at, i) ((steps S.inputs record_cursor record_low N).next ∙ sym (place_record r f (k + 1))))
           (rw (i, d) (F.next k record_cursor))
@@ -192,11 +170,6 @@ module _ {r f : List ℕ} {plan : List (List ℕ)} {z : List ℕ} {at : ℕ} {m 
 pub record Noted (r z p : List ℕ) (j : ℕ) : Type 0 where
   pub long : length p ≡ vertex_limit
   pub get : (u : ℕ) → u < count r → u + 1 < j → get_or p u 0 ≡ byte_at z (partner_at u + 2)
-
--- there is room for one
-pub record NotedAt (z : List ℕ) (at u : ℕ) : Type 0 where
-  pub inside : at + 2 < length z
-  pub low : u < vertex_limit
 
 pub noted_none : (r z p : List ℕ) → length p ≡ vertex_limit → Noted r z p 0
 noted_none r z p e = record { long = e; get = λ u l h. absurd (omega arith) }
@@ -218,23 +191,11 @@ noted_more {r} {z} {p} at u l e N =
 pub noted_kept : {r z p : List ℕ} (j : ℕ) → count r < j → Noted r z p j → Noted r z p (j + 1)
 noted_kept j l N = record { long = N.long; get = λ u h t. N.get u h (omega arith) }
 
--- ---- a step of the walk: what it asks, and what it leaves
+-- ---- the walk: what is known once j records are passed, and at its end
 
-pub record Reading (r f : List ℕ) (plan : List (List ℕ)) (p z : List ℕ) (at : ℕ) (m : Marks) : Type 0 where
-  pub stepping : Stepping r f plan z at m
-  pub noted : Noted r z p m.number
-
-pub record Passing (r f p z : List ℕ) (m : Marks) (next : ℕ) (n : Marks) : Type 0 where
-  pub stepped : Stepped r f z m next n
-  pub noted : Noted r z p n.number
-
--- ---- the whole walk: before it, and after
-
-pub record Unread (r f : List ℕ) (plan : List (List ℕ)) (p z : List ℕ) (next : ℕ) (m : Marks) : Type 0 where
-  pub inputs : Inputs r f plan
-  pub long : length z ≡ certificate_length r f
-  pub head : AtHead r f next m
-  pub room : length p ≡ vertex_limit
+pub record Marked (r f p z : List ℕ) (j : ℕ) (w : Walk) : Type 0 where
+  pub walked : Walked r f z j w
+  pub noted : Noted r z p j
 
 -- the answer is item 20's, and the partners are the certificate's mapping
 pub record AllRead (r f p z : List ℕ) (ok : Bool) : Type 0 where
@@ -272,38 +233,14 @@ module _ (r f z : List ℕ) where
       let a : length (take (count r) p) ≡ count r = length-take-le (count r) p (omega arith) in
       ext_get_or 0 _ _ (a ∙ sym (length_tab g (count r))) (λ u l. let t : u < count r = omega arith in get_or-take (count r) p u 0 t ∙ N.get u t (omega arith) ∙ sym (get_d_tab g (count r) u 0 t))
 
--- ---- the walk's invariant
+pub stepping : {table r f p z : List ℕ} {plan : List (List ℕ)} {j : ℕ} {w : Walk} → Ready table r f plan → length z ≡ certificate_length r f → Marked r f p z j w → j < count r + 1 + subproblems r f → Stepping r f plan z j w
+stepping N long M h = record { inputs = ready_inputs N; long = long; walked = M.walked; more = h }
 
-pub record Going (r f : List ℕ) (plan : List (List ℕ)) (p z : List ℕ) (at : ℕ) (m : Marks) : Type 0 where
-  pub inputs : Inputs r f plan
-  pub long : length z ≡ certificate_length r f
-  pub walked : Walked r f z at m
-  pub noted : Noted r z p m.number
-  pub upto : m.number ≤ m.count
+pub marked_none : {r f p : List ℕ} {plan : List (List ℕ)} (z : List ℕ) → Inputs r f plan → length p ≡ vertex_limit → Marked r f p z 0 (walk_from 0)
+marked_none {r} {p = p} z I e = record { walked = walked_none z I; noted = noted_none r z p e }
 
-module _ {r f : List ℕ} {plan : List (List ℕ)} {p z : List ℕ} {at : ℕ} {m : Marks} where
-  pub going_first : Unread r f plan p z at m → Going r f plan p z at m
-  going_first U = record {
-    inputs = U.inputs;
-    long = U.long;
-    walked = walked_none z U.head;
-    noted = rw U.head.number (noted_none r z p U.room);
-    upto = rw U.head.number (omega arith);
-  }
-
-  pub going_reads : Going r f plan p z at m → m.number < m.count → Reading r f plan p z at m
-  going_reads G l = record { stepping = record { inputs = G.inputs; long = G.long; walked = G.walked; more = l }; noted = G.noted }
-
-  pub going_on : {p' : List ℕ} {next : ℕ} {n : Marks} → Going r f plan p z at m → m.number < m.count → Passing r f p' z m next n → Going r f plan p' z next n
-  going_on G l P = record { inputs = G.inputs; long = G.long; walked = P.stepped.walked; noted = P.noted; upto = let a = P.stepped.number in let b = P.stepped.count in omega arith }
-
-  pub going_end : Going r f plan p z at m → m.count ≤ m.number → AllRead r f p z m.ok
-  going_end G h =
-      let u = G.upto in
-      let e : m.count ≡ m.number = omega arith in
-      let c : m.number ≡ count r + 1 + subproblems r f = sym e ∙ G.walked.all in
-      record { shaped = G.walked.seen ∙ rw c (marks_all r f z G.long); partners = record { long = G.noted.long; front = mapped_all r f z p m.number (inputs_few G.inputs).0 (omega arith) G.noted } }
-
--- a step comes nearer to the end
-pub nearer : {r f p z : List ℕ} {m : Marks} {next : ℕ} {n : Marks} → m.number < m.count → Passing r f p z m next n → n.count - n.number < m.count - m.number
-nearer l P = let a = P.stepped.number in let b = P.stepped.count in omega arith
+pub marked_end : {r f p z : List ℕ} {plan : List (List ℕ)} {j : ℕ} {w : Walk} → Inputs r f plan → length z ≡ certificate_length r f → j ≡ count r + 1 + subproblems r f → Marked r f p z j w → AllRead r f p z w.ok
+marked_end {r} {f} {p} {z} {j = j} I long c M = record {
+  shaped = M.walked.seen ∙ rw c (marks_all r f z long);
+  partners = record { long = M.noted.long; front = mapped_all r f z p j (inputs_few I).0 (omega arith) M.noted };
+}

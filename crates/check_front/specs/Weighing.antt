@@ -1,22 +1,19 @@
 -- The items 21 and 22: what is known of the partners, and what each test gives. Assumes nothing.
 use Rattle.std.specs.Prelude.{◌≡◌, refl, Bool, true, false, not, cond, List, ℕ, length, take, eqb, ℤ}
-use Rattle.std.proofs.Common.{sym, ap, ◌∙◌, eqb-true, eq-eqb, SFits, to_z, of_z, to_z-of_z}
+use Rattle.std.proofs.Common.{ap, ◌∙◌, SFits, of_z}
 use Rattle.std.specs.Int.{w32}
-use Rattle.foundations.specs.Tests.{same_test, cond_no, cond_yes}
+use Rattle.foundations.specs.Tests.{cond_no, cond_yes}
 use Rattle.model.specs.Limits.{vertex_limit}
 use Rattle.model.specs.Tree.{count}
 use Rattle.model.specs.Mapping.{weight, mapping_ok}
 use Rattle.model.specs.Certificate.{weight_in, mapping_in, eq_z}
-use Rattle.certificate.specs.Rules.{eq_z_says, eq_z_same}
+use Rattle.records.specs.Equal.{same_bits}
 
 -- ---- two numbers
 
 -- the same bits
 pub same_number : (a b : ℤ) → SFits w32 a → SFits w32 b → eqb (of_z w32 a) (of_z w32 b) ≡ eq_z a b
-same_number a b f g =
-    same_test (eqb (of_z w32 a) (of_z w32 b)) (eq_z a b)
-    (λ e. eq_z_same a b (sym (to_z-of_z f) ∙ ap (to_z w32) (eqb-true (of_z w32 a) (of_z w32 b) e) ∙ to_z-of_z g))
-    (λ e. eq-eqb (of_z w32 a) (of_z w32 b) (ap (of_z w32) (eq_z_says a b e)))
+same_number a b f g = same_bits w32 a b f g
 
 -- ---- the items 21 and 22
 

@@ -1,6 +1,6 @@
 -- The tests of a mapping as code does them, against the model's `mapping_ok`. Assumes nothing.
-use Rattle.std.specs.Prelude.{◌≡◌, refl, ◌≢◌, Bool, true, false, ◌&&◌, cond, List, ℕ, ◌+◌, ◌-◌, ◌≤◌, ◌<◌, length, take, eqb, leb, ℤ}
-use Rattle.std.proofs.Common.{sym, ◌∙◌, subst, ⊎_elim, true≢false, arith, add-one, length-take-le, get_or-take}
+use Rattle.std.specs.Prelude.{◌≡◌, refl, ◌≢◌, Bool, true, false, ◌&&◌, cond, List, ℕ, ◌-◌, ◌≤◌, ◌<◌, length, take, eqb, leb, ℤ}
+use Rattle.std.proofs.Common.{sym, ◌∙◌, subst, ⊎_elim, true≢false, arith, length-take-le, get_or-take}
 use Rattle.std.proofs.Math.Path.{ap}
 use Rattle.std.proofs.Math.Bool.{not}
 use borrow.Author.Tests.{eq-eqb, ne_eqb, lt-ltb, le-ltb}
@@ -149,10 +149,6 @@ module _ (table r f p : List ℕ) (u w : ℕ) (h a : Bool) (ew : w ≡ parent r 
 pub top_is : (r p : List ℕ) (u w : ℕ) (h a : Bool) → w ≡ parent r u → h ≡ mapped p u → a ≡ mapped p w → (h && not (not (eqb u 0) && a)) ≡ is_top r p u
 unfolding is_top parent_mapped
 top_is r p u w h a ew eh ea = rw (eh, ea, ew)
-
-pub cnt_step : (q : ℕ → Bool) (i k d : ℕ) (b : Bool) → k ≡ cnt q i → b ≡ q i → d ≡ k + cond b 1 0 → d ≡ cnt q (i + 1)
-unfolding cnt
-cnt_step q i k d b e g h = rw (add-one, cnt, h, e, g)
 
 -- ---- the whole: the tests see only the first n bytes
 

@@ -1,9 +1,10 @@
 -- The mapping's exact sum, term by term: what each term is, and that it is small. Assumes nothing.
 use Rattle.std.specs.Prelude.{◌≡◌, refl, ◌⊎◌, ◌≢◌, Bool, true, false, ◌&&◌, cond, List, ℕ, ◌+◌, ◌*◌, ◌≤◌, ◌<◌, get_or, length, take, T, eqb, ℤ, pos, neg_ℤ, ◌+ℤ◌, ◌≤ℤ◌}
-use Rattle.std.proofs.Common.{sym, ◌∙◌, subst, inl, ⊎_elim, arith, get_or-take, eq-eqb, ne_eqb}
+use Rattle.std.proofs.Common.{sym, ◌∙◌, subst, inl, ⊎_elim, arith, get_or-take, eq-eqb, ne_eqb, SFits}
+use Rattle.std.specs.Int.{w32}
 use Rattle.std.proofs.Math.Path.{ap}
 use Rattle.std.proofs.Math.Bool.{not}
-use Rattle.foundations.specs.Int.{up, dn, int, plus, canon}
+use Rattle.foundations.specs.Int.{up, dn, int, ints, plus, canon}
 use Rattle.foundations.specs.Sums.{sumℤ, sumℤ_more, pick}
 use Rattle.foundations.specs.Tests.{and_both, and_false}
 use Rattle.model.specs.Graph.{edges, joined}
@@ -57,6 +58,14 @@ sum_both j k x y s t r S R e =
 -- one term more
 pub sum_more : (i : ℕ) (F : ℕ → ℤ) (s t r : ℤ) → SumTo i (sumℤ i F) s → SumTo 1 (F i) t → r ≡ s +ℤ t → SumTo (i + 1) (sumℤ (i + 1) F) r
 sum_more i F s t r S R e = subst (λ (z : ℤ). SumTo (i + 1) z r) (sym (sumℤ_more i F)) (sum_both i 1 (sumℤ i F) (F i) s t r S R e)
+
+-- a loop's turn: the sum fits, and has one term more
+pub sum_turn : (F : ℕ → ℤ) {i n : ℕ} {s t : ℤ} → SumTo i (sumℤ i F) s → SumTo 1 (F i) t → i < n → n ≤ part_limit → SFits w32 (s +ℤ t)
+sum_turn F {s = s} {t = t} S R l h = let a = S.high in let b = S.low in let c = R.high in let d = R.low in omega (ints, plus s t)
+
+-- and its end
+pub sum_end : (F : ℕ → ℤ) {i n : ℕ} {s : ℤ} → i ≡ n → SumTo i (sumℤ i F) s → SumTo n (sumℤ n F) s
+sum_end F e S = rw (← e) S
 
 -- a weight in range is one term
 term : (w : Weight) (z : ℤ) → w ≡ some z → (neg_ℤ (pos weight_limit) ≤ℤ z) × (z ≤ℤ pos weight_limit) → SumTo 1 (num w) z
@@ -117,6 +126,20 @@ module _ (table r f p : List ℕ) (G : Ground table r f p) where
 
   -- ---- edges
 
+  -- what stands at the ends u and w of edge j of a tree of n vertices
+  pub record EndsAt (j u w : ℕ) : Type 0 where
+    pub low : (u < length p) × (w < length p)
+    pub first : get_or p u 0 ≡ get_or p (end_a r (count r) j) 0
+    pub second : get_or p w 0 ≡ get_or p (end_b r (count r) j) 0
+
+  pub ends_at : {n j u w : ℕ} → n ≡ count r → j + 1 < count r → u ≡ end_a r n j → w ≡ end_b r n j → EndsAt j u w
+  ends_at {n} {j} {u} {w} en lj eu ew =
+      let hu : u ≡ end_a r (count r) j = rw en at eu in
+      let hw : w ≡ end_b r (count r) j = rw en at ew in
+      let low = A.recorded.ends.low j (omega arith) in
+      let long = G.long in
+      record { low = (rw hu (omega (arith, low.0)), rw hw (omega (arith, low.1))); first = rw hu; second = rw hw }
+
   -- edge j with ends x and y, whose partners are a and b
   module _ (j a b : ℕ) (lj : j + 1 < count r) (ea : a ≡ get_or p (end_a r (count r) j) 0) (eb : b ≡ get_or p (end_b r (count r) j) 0) where
     abbrev x : ℕ
@@ -127,9 +150,6 @@ module _ (table r f p : List ℕ) (G : Ground table r f p) where
 
     low : (x < count r) × (y < count r)
     low = A.recorded.ends.low j (omega arith)
-
-    pub ends_in : (x < length p) × (y < length p)
-    ends_in = let l = G.long in (omega (arith, low.0), omega (arith, low.1))
 
     pub edge_none : (a ≡ no_vertex) ⊎ (b ≡ no_vertex) → SumTo 1 (edge_term table r f front x y) (pos 0)
     edge_none h = term_none (mapped front x && mapped front y) (edge_pair table r f x y (partner front x) (partner front y))

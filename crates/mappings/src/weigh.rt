@@ -1,123 +1,80 @@
 //! The exact weight of a mapping: its vertex pairs and its edge pairs added up.
-ghost use Rattle.std.specs.Prelude.{◌+◌, ◌-◌, ◌<◌, ◌≤◌, ◌≡◌, get_or, length, take, ◌+ℤ◌};
+ghost use Rattle.std.specs.Prelude.{◌+◌, ◌-◌, ◌<◌, ◌≤◌, ◌≡◌, length, take};
 ghost use Rattle.model.specs.Tree.{count, end_a, end_b};
 ghost use Rattle.model.specs.Mapping.{IsMapping, vertex_pairs, edge_term, edge_pairs, weight};
-ghost use Rattle.plan.specs.Plan.{Ready};
-ghost use Rattle.mappings.specs.WeighLaws.{Ground, SumTo, SmallSum, vertex_term};
+ghost use Rattle.mappings.specs.WeighLaws.{Ground, SumTo, vertex_term};
 
-use formats::tree::{edge_label_at, end_a, end_b, vertex_count};
+use formats::tree::{edge_label_at, end_a, end_b};
 use model::Limits;
+use plan::instance::Instance;
 use plan::weights::{edge_pair, vertex_pair};
-use plan::{Plan, neighbour_edge, slot};
-
-// Two numbers that together are no more than a mapping can weigh: their sum fits.
-fn add(s: i32, t: i32) -> i32
-    requires { SmallSum s t }
-    ensures { result ≡ s +ℤ t }
-{
-    s + t
-}
-
-// The partner of a recorded vertex.
-fn partner_of(mapping: &[u8], x: u8) -> u8
-    requires { x < length mapping.now }
-    ensures { result ≡ get_or mapping.now x 0 }
-{
-    mapping[x as usize]
-}
+use plan::{neighbour_edge, slot};
 
 // The weight of u's pair, 0 where u has no partner.
-fn vertex_term(
-    table: &[u8],
-    recorded: &[u8],
-    found: &[u8],
-    plan: &Plan,
-    mapping: &[u8],
-    u: u8,
-) -> i32
-    requires ground { Ground table.now recorded.now found.now mapping.now }
-    requires ready { Ready table.now recorded.now found.now plan.now }
-    requires u_bound { u < count recorded.now }
-    ensures { SumTo 1 (vertex_term table.now recorded.now found.now (take (count recorded.now) mapping.now) u) result }
+fn vertex_term(on: &Instance, mapping: &[u8], u: u8) -> i32
+    requires ground { Ground on.now.table.now on.now.recorded.now on.now.found.now mapping.now }
+    requires u_bound { u < count on.now.recorded.now }
+    ensures { SumTo 1 (vertex_term on.now.table.now on.now.recorded.now on.now.found.now (take (count on.now.recorded.now) mapping.now) u) result }
 {
-    let v = partner_of(mapping, u);
+    let v = mapping[u as usize];
     if v == Limits::NONE {
         return 0;
     }
-    vertex_pair(table, plan, u, v)
+    vertex_pair(on.table, on.plan, u, v)
 }
 
 // The weight of all vertex pairs.
-fn sum_vertices(table: &[u8], recorded: &[u8], found: &[u8], plan: &Plan, mapping: &[u8]) -> i32
-    requires ground { Ground table.now recorded.now found.now mapping.now }
-    requires ready { Ready table.now recorded.now found.now plan.now }
-    ensures { SumTo (count recorded.now) (vertex_pairs table.now recorded.now found.now (take (count recorded.now) mapping.now)) result }
+fn sum_vertices(on: &Instance, mapping: &[u8]) -> i32
+    requires ground { Ground on.now.table.now on.now.recorded.now on.now.found.now mapping.now }
+    ensures { SumTo (count on.now.recorded.now) (vertex_pairs on.now.table.now on.now.recorded.now on.now.found.now (take (count on.now.recorded.now) mapping.now)) result }
 {
-    let n = vertex_count(recorded);
-    let mut s: i32 = 0;
-    let mut u: u8 = 0;
-    while (u as usize) < n {
-        let t = vertex_term(table, recorded, found, plan, mapping, u);
-        s = add(s, t);
-        u += 1;
+    let n = on.n() as u8;
+    let mut sum: i32 = 0;
+    for u in 0..n {
+        sum += vertex_term(on, mapping, u);
     }
-    s
+    sum
 }
 
 // The weight of the pair of recorded edge j, 0 where an end has no partner.
-fn edge_term(
-    table: &[u8],
-    recorded: &[u8],
-    found: &[u8],
-    plan: &Plan,
-    mapping: &[u8],
-    j: usize,
-) -> i32
-    requires ground { Ground table.now recorded.now found.now mapping.now }
-    requires ready { Ready table.now recorded.now found.now plan.now }
-    requires j_bound { j + 1 < count recorded.now }
-    ensures { SumTo 1 (edge_term table.now recorded.now found.now (take (count recorded.now) mapping.now) (end_a recorded.now (count recorded.now) j) (end_b recorded.now (count recorded.now) j)) result }
+fn edge_term(on: &Instance, mapping: &[u8], j: usize) -> i32
+    requires ground { Ground on.now.table.now on.now.recorded.now on.now.found.now mapping.now }
+    requires j_bound { j + 1 < count on.now.recorded.now }
+    ensures { SumTo 1 (edge_term on.now.table.now on.now.recorded.now on.now.found.now (take (count on.now.recorded.now) mapping.now) (end_a on.now.recorded.now (count on.now.recorded.now) j) (end_b on.now.recorded.now (count on.now.recorded.now) j)) result }
 {
-    let n = vertex_count(recorded);
-    let a = partner_of(mapping, end_a(recorded, n, j));
-    let b = partner_of(mapping, end_b(recorded, n, j));
+    let n = on.n();
+    let a = mapping[end_a(on.recorded, n, j) as usize];
+    let b = mapping[end_b(on.recorded, n, j) as usize];
     if a == Limits::NONE {
         return 0;
     }
     if b == Limits::NONE {
         return 0;
     }
-    let c = slot(plan, a, b);
-    let i = edge_label_at(recorded, n, j);
-    let k = neighbour_edge(plan, a, c - 1);
-    edge_pair(table, i, k)
+    let c = slot(on.plan, a, b);
+    let i = edge_label_at(on.recorded, n, j);
+    let k = neighbour_edge(on.plan, a, c - 1);
+    edge_pair(on.table, i, k)
 }
 
 // The weight of all edge pairs.
-fn sum_edges(table: &[u8], recorded: &[u8], found: &[u8], plan: &Plan, mapping: &[u8]) -> i32
-    requires ground { Ground table.now recorded.now found.now mapping.now }
-    requires ready { Ready table.now recorded.now found.now plan.now }
-    ensures { SumTo (count recorded.now - 1) (edge_pairs table.now recorded.now found.now (take (count recorded.now) mapping.now)) result }
+fn sum_edges(on: &Instance, mapping: &[u8]) -> i32
+    requires ground { Ground on.now.table.now on.now.recorded.now on.now.found.now mapping.now }
+    ensures { SumTo (count on.now.recorded.now - 1) (edge_pairs on.now.table.now on.now.recorded.now on.now.found.now (take (count on.now.recorded.now) mapping.now)) result }
 {
-    let n = vertex_count(recorded);
-    let mut s: i32 = 0;
-    let mut j: usize = 0;
-    while j + 1 < n {
-        let t = edge_term(table, recorded, found, plan, mapping, j);
-        s = add(s, t);
-        j += 1;
+    let edges = on.n() - 1;
+    let mut sum: i32 = 0;
+    for j in 0..edges {
+        sum += edge_term(on, mapping, j);
     }
-    s
+    sum
 }
 
 // The weight of the mapping in the first bytes of `mapping`.
-pub fn weigh(table: &[u8], recorded: &[u8], found: &[u8], plan: &Plan, mapping: &[u8]) -> i32
-    requires ready { Ready table.now recorded.now found.now plan.now }
-    requires recorded_in_bounds { count recorded.now ≤ length mapping.now }
-    requires mapping { IsMapping table.now recorded.now found.now (take (count recorded.now) mapping.now) }
-    ensures { result ≡ weight table.now recorded.now found.now (take (count recorded.now) mapping.now) }
+pub fn weigh(on: &Instance, mapping: &[u8]) -> i32
+    requires recorded_in_bounds { count on.now.recorded.now ≤ length mapping.now }
+    requires mapping { IsMapping on.now.table.now on.now.recorded.now on.now.found.now (take (count on.now.recorded.now) mapping.now) }
+    ensures { result ≡ weight on.now.table.now on.now.recorded.now on.now.found.now (take (count on.now.recorded.now) mapping.now) }
 {
-    let s = sum_vertices(table, recorded, found, plan, mapping);
-    let t = sum_edges(table, recorded, found, plan, mapping);
-    add(s, t)
+    sum_vertices(on, mapping) + sum_edges(on, mapping)
 }

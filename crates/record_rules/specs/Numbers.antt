@@ -1,8 +1,10 @@
 -- Numbers of 4 bytes, one after the other: the tests of their signs, and an array that holds them. Assumes nothing.
-use Rattle.std.specs.Prelude.{◌≡◌, refl, Bool, List, ℕ, ◌+◌, ◌*◌, ◌≤◌, ◌<◌, ◌^◌, length, get_or, set, pos}
-use Rattle.std.proofs.Common.{◌∙◌, ⊎_elim, arith, not-suc-le-zero, add-one, length-set, get_or-set_same, get_or-set_other}
+use Rattle.std.specs.Prelude.{◌≡◌, refl, Bool, List, ℕ, ◌+◌, ◌*◌, ◌≤◌, ◌<◌, ◌^◌, length, get_or, set, take, zero, suc, pos}
+use Rattle.std.specs.List.{sum as list_sum}
+use Rattle.std.proofs.Common.{◌∙◌, ⊎_elim, arith, not-suc-le-zero, take-suc, length-set, get_or-set_same, get_or-set_other}
 use Rattle.std.specs.Int.Signed.{le_z}
 use Rattle.foundations.specs.Int.{up}
+use Rattle.std.proofs.lemmas.List.Sums.{sum_by_push}
 use Rattle.foundations.specs.Sums.{sum}
 use Rattle.foundations.specs.Tests.{same?}
 use Rattle.model.specs.Bytes.{int32_at}
@@ -57,13 +59,16 @@ pub record TotalTo (numbers : List ℕ) (n total : ℕ) : Type 0 where
   pub is : total ≡ sum n (λ i. get_or numbers i 0)
   pub small : total ≤ n * 2 ^ 31
 
-pub total_none : (numbers : List ℕ) → TotalTo numbers 0 0
+-- a list's first n numbers are added up by std's `sum`
+pub total_taken : {numbers : List ℕ} {n : ℕ} → Low numbers n → length numbers ≡ degree_limit → TotalTo numbers n (list_sum (take n numbers))
 unfolding sum
-total_none numbers = record { is = refl; small = omega arith }
-
-pub total_more : {numbers : List ℕ} {n : ℕ} → Low numbers n → (i total : ℕ) → i < n → TotalTo numbers i total → TotalTo numbers (i + 1) (total + get_or numbers i 0)
-unfolding sum
-total_more {numbers} {n} S i total h T =
-    let a = S.small i h in
-    let b = T.small in
-    record { is = rw (add-one i) (rw T.is); small = omega arith }
+total_taken {numbers} {n} S e = go n S.few S.small
+  where
+    go : (k : ℕ) → k ≤ degree_limit → ((i : ℕ) → i < k → get_or numbers i 0 < 2 ^ 31) → TotalTo numbers k (list_sum (take k numbers))
+    go zero h s = record { is = refl; small = omega arith }
+    go (suc k) h s =
+        let T = go k (omega arith) (λ i l. s i (omega arith)) in
+        let b = T.small in
+        let x = s k (omega arith) in
+        let more : list_sum (take (suc k) numbers) ≡ list_sum (take k numbers) + get_or numbers k 0 = rw (take-suc numbers k 0 (omega arith)) (sum_by_push (λ x. x) (take k numbers) (get_or numbers k 0)) in
+        record { is = rw (more, T.is); small = omega arith }

@@ -1,6 +1,5 @@
 //! Numbers of a certificate from a place on, 4 bytes each: their signs, their values, and a value that is a weight plus a total.
-ghost use Rattle.std.specs.Prelude.{◌+◌, ◌*◌, ◌<◌, ◌≤◌, ◌^◌, ◌≡◌, get_or, length, pos, ◌+ℤ◌};
-ghost use Rattle.std.specs.Int.Signed.{le_z};
+ghost use Rattle.std.specs.Prelude.{◌*◌, ◌<◌, ◌≤◌, ◌^◌, ◌≡◌, get_or, length, pos, ◌+ℤ◌};
 ghost use Rattle.foundations.specs.Lists.{every};
 ghost use Rattle.foundations.specs.Sums.{sum};
 ghost use Rattle.model.specs.Certificate.{eq_z};
@@ -9,33 +8,12 @@ ghost use Rattle.record_rules.specs.Numbers.{Spans, Low, not_negative, is_zero, 
 use integers::{above_zero, int32_at};
 use model::{Limits, WideRow};
 
-fn is_natural(x: i32) -> bool
-    ensures { result ≡ le_z (pos 0) x }
-{
-    0 <= x
-}
-
-fn is_zero(x: i32) -> bool
-    ensures { result ≡ eq_z x (pos 0) }
-{
-    (x <= 0) & (0 <= x)
-}
-
-// A number of 32 bits as one of 64.
-pub fn wide(x: u32) -> u64
-    ensures { result ≡ x }
-{
-    x as u64
-}
-
 // Whether a value is a weight plus a total.
 pub fn is_sum(value: i32, weight: i32, total: u64) -> bool
     requires { total ≤ 2 ^ 40 }
     ensures { result ≡ eq_z value (weight +ℤ pos total) }
 {
-    let s = (weight as i64) + (total as i64);
-    let x = value as i64;
-    (x <= s) & (s <= x)
+    i64::from(value) == i64::from(weight) + total as i64
 }
 
 // None of the count numbers from `at` on is negative.
@@ -43,14 +21,14 @@ pub(crate) fn none_negative(z: &[u8], at: usize, count: usize) -> bool
     requires { Spans (length z.now) at count }
     ensures { result ≡ every (not_negative z.now at) count }
 {
-    let mut ok = true;
-    let mut i: usize = 0;
-    while i < count {
-        let t = is_natural(int32_at(z, at + 4 * i));
-        ok = ok & t;
-        i += 1;
-    }
-    ok
+    (0..count).all(|i| 0 <= int32_at(z, at + 4 * i))
+}
+
+// A function of its own: as `== 0` in the closure below the proof did not close, since the search does not find that equal bits are equal numbers.
+fn is_zero(x: i32) -> bool
+    ensures { result ≡ eq_z x (pos 0) }
+{
+    x == 0
 }
 
 // The count numbers from `at` on are all 0.
@@ -58,14 +36,7 @@ pub(crate) fn all_zero(z: &[u8], at: usize, count: usize) -> bool
     requires { Spans (length z.now) at count }
     ensures { result ≡ every (is_zero z.now at) count }
 {
-    let mut ok = true;
-    let mut i: usize = 0;
-    while i < count {
-        let t = is_zero(int32_at(z, at + 4 * i));
-        ok = ok & t;
-        i += 1;
-    }
-    ok
+    (0..count).all(|i| is_zero(int32_at(z, at + 4 * i)))
 }
 
 // The count numbers from `at` on, 0 for a negative one.
@@ -74,11 +45,8 @@ pub(crate) fn numbers_in(z: &[u8], at: usize, count: usize) -> WideRow
     ensures { NumbersIn z.now at count result }
 {
     let mut r = [0u64; Limits::PLACES];
-    let mut i: usize = 0;
-    while i < count {
-        let x = wide(above_zero(int32_at(z, at + 4 * i)));
-        r[i] = x;
-        i += 1;
+    for i in 0..count {
+        r[i] = u64::from(above_zero(int32_at(z, at + 4 * i)));
     }
     r
 }
@@ -88,11 +56,5 @@ pub(crate) fn total_of(numbers: &WideRow, n: usize) -> u64
     requires { Low numbers.now n }
     ensures { (result ≡ sum n (λ i. get_or numbers.now i 0)) × (result ≤ n * 2 ^ 31) }
 {
-    let mut total: u64 = 0;
-    let mut i: usize = 0;
-    while i < n {
-        total += numbers[i];
-        i += 1;
-    }
-    total
+    numbers[..n].iter().sum()
 }

@@ -1,5 +1,5 @@
 -- Going from record to record: the cursor of subproblem k, and that of the next; the counts that its record's length hangs on. Assumes nothing.
-use Rattle.std.specs.Prelude.{◌≡◌, refl, ◌≢◌, List, length, get_or}
+use Rattle.std.specs.Prelude.{◌≡◌, refl, ◌≢◌, true, List, length, get_or}
 use Rattle.std.proofs.Common.{ap, sym, ◌∙◌, ⊎_elim, add-one, mul-le-mul}
 use Prim.Native.Nat.{ℕ, suc, ◌+◌, ◌*◌, ◌≤◌, ◌<◌}
 use native.Mathlib.Omega.{arith}
@@ -13,6 +13,7 @@ use Rattle.model.specs.Tree.{count}
 use Rattle.certificate.specs.Length.{record_inside}
 use Rattle.plan.specs.Plan.{child_count_in, order_in, degree_in}
 use Rattle.plan.specs.Numbers.{offset_width, ready_sound}
+use Rattle.records.specs.declared.cursor.Walk.{Walk}
 use Rattle.records.specs.Others.{others_of, others_at, others_few}
 use Rattle.records.specs.Places.{Inputs, inputs_found, order_low, size_known, found_known, number_at}
 
@@ -44,6 +45,10 @@ pub record CursorIn (r f : List ℕ) (plan : List (List ℕ)) (i v q : ℕ) : Ty
 
 pub cursor_in : {r f : List ℕ} {plan : List (List ℕ)} {k i v q : ℕ} → Inputs r f plan → CursorAt f k i v q → k < subproblems r f → CursorIn r f plan i v q
 cursor_in {r} I C l = record { inputs = I; i_low = cursor_low r C l; v_low = C.v_low; q_low = C.q_low }
+
+-- a walk that begins at a record
+abbrev pub walk_from : ℕ → Walk
+walk_from at = record { at = at; ok = true; cursor = record { i = 0; v = 0; q = 0 } }
 
 -- ---- the next one
 

@@ -55,6 +55,9 @@ pub record Laid (r f : List ℕ) (plan places : List (List ℕ)) : Type 0 where
   pub inputs : Inputs r f plan
   pub at : PlacesTo r f (count r) places
 
+pub laid : {table r f : List ℕ} {plan places : List (List ℕ)} → Ready table r f plan → PlacesTo r f (count r) places → Laid r f plan places
+laid {table} N at = record { inputs = record { table = table; ready = N }; at = at }
+
 -- the records of the i-th vertex in postorder begin at `first`, and have `own` bytes beside the duals of v's neighbours
 pub record RowBegins (r f : List ℕ) (i first own : ℕ) : Type 0 where
   pub low : i < count r

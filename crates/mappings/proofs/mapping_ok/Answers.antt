@@ -1,15 +1,23 @@
 -- `mapping_ok` meets its contract. Assumes nothing.
-use Rattle.mappings.specs.Tested.{above, tested}
+use Rattle.std.proofs.Common.{refl, sym, ◌∙◌, true≢false}
+use Rattle.mappings.specs.Tested.{tested}
 use Rattle.mappings.proofs.mapping_ok.Goals as goal
+use Rattle.mappings.proofs.mapping_ok.Goals.{then-vertices_ok, else-vertices_ok}
 
-pub vertices_ok-v-requires : goal.vertices_ok-v-requires
-vertices_ok-v-requires c = c.requires.ready
+pub returns-then-edges_ok : goal.returns-then-edges_ok
+returns-then-edges_ok c = elim c.if-vertices_ok.branch [
+  | then-vertices_ok w ↦
+      let t = tested c.args.on.now.ready _ c.requires.recorded_in_bounds c.vertices_ok.result w.edges_ok.result c.tops.result c.vertices_ok.ensures w.edges_ok.ensures c.tops.ensures in
+      rw (w.if-vertices_ok.true, sym w.value-is ∙ c.if-edges_ok.true) at t
+  | else-vertices_ok w ↦ absurd (true≢false (sym c.if-edges_ok.true ∙ (w.value-is ∙ w.if-vertices_ok.false)))
+]
 
-pub edges_ok-e-requires : goal.edges_ok-e-requires
-edges_ok-e-requires c = c.requires.ready
-
-pub tops-k-requires : goal.tops-k-requires
-tops-k-requires c = above c.requires.ready
-
-pub returns : goal.returns
-returns c = tested c.requires.ready _ c.requires.recorded_in_bounds c.vertices_ok-v.result c.edges_ok-e.result c.tops-k.result c.vertices_ok-v.ensures c.edges_ok-e.ensures c.tops-k.ensures
+pub returns-else-edges_ok : goal.returns-else-edges_ok
+returns-else-edges_ok c = elim c.if-vertices_ok.branch [
+  | then-vertices_ok w ↦
+      let t = tested c.args.on.now.ready _ c.requires.recorded_in_bounds c.vertices_ok.result w.edges_ok.result _ c.vertices_ok.ensures w.edges_ok.ensures refl in
+      c.if-edges_ok.false ∙ (rw (w.if-vertices_ok.true, sym w.value-is ∙ c.if-edges_ok.false) at t)
+  | else-vertices_ok w ↦
+      let t = tested c.args.on.now.ready _ c.requires.recorded_in_bounds c.vertices_ok.result _ _ c.vertices_ok.ensures refl refl in
+      c.if-edges_ok.false ∙ (rw w.if-vertices_ok.false at t)
+]

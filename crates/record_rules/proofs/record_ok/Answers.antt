@@ -1,8 +1,7 @@
 -- `record_ok` tests the record as that of a forbidden pair or of another. Assumes nothing.
-use mathlib.Core.Path.{sym, ◌∙◌}
+use Rattle.std.proofs.Common.{sym, ◌∙◌, rules}
 use Rattle.foundations.specs.Machine.{Same}
 use Rattle.record_rules.specs.Cover.{rules_none, rules_some}
-use borrow.Author.Rules.{rules}
 use Rattle.record_rules.proofs.record_ok.Goals as goal
 
 pub returns-then-is_forbidden : goal.returns-then-is_forbidden

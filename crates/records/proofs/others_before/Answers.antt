@@ -8,14 +8,6 @@ use Rattle.records.proofs.others_before.Goals as goal
 pub returns-then-q-eq0 : goal.returns-then-q-eq0
 returns-then-q-eq0 c = (sym (before_none _ _ c.if-q-eq0.true), omega arith)
 
-pub overflow_mul-result : goal.overflow_mul-result
-overflow_mul-result c =
-    let p = c.requires in let h = before_small _ _ p.0 p.1 in omega arith
-
-pub overflow_add-result : goal.overflow_add-result
-overflow_add-result c =
-    let p = c.requires in let h = before_small _ _ p.0 p.1 in omega arith
-
 pub returns : goal.returns
 returns c =
     let p = c.requires in let h = before_small _ _ p.0 p.1 in (sym (before_some _ _ c.if-q-eq0.false), omega arith)

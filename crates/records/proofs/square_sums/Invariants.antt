@@ -1,14 +1,8 @@
 -- `square_sums` meets its contract. Assumes nothing.
-use Prim.Native.Nat.{◌≤◌, ◌-◌}
 use mathlib.Core.Path.{◌≡◌}
 use Rattle.model.specs.Certificate.{squares}
-use Rattle.model.specs.Limits.{vertex_limit}
-use Rattle.model.specs.Tree.{count}
 use Rattle.records.specs.Places.{SquaresTo}
 use Rattle.records.proofs.square_sums.Given as goal
 
 abbrev pub invariant-loop-v : goal.invariant-loop-v
-invariant-loop-v l = (l.v ≤ l.m) × (l.m ≡ count l.found) × (l.m ≤ vertex_limit) × (l.sum ≡ squares l.found l.v) × SquaresTo l.found l.v l.p
-
-abbrev pub decreases-loop-v : goal.decreases-loop-v
-decreases-loop-v l = l.m - l.v
+invariant-loop-v l = (l.sum ≡ squares l.on.found.now l.v) × SquaresTo l.on.found.now l.v l.p

@@ -1,8 +1,9 @@
 -- `is_zero` meets its contract. Assumes nothing.
-use Rattle.model.specs.Certificate.{eq_z}
-use Rattle.foundations.specs.Machine.{machine}
+use Rattle.std.proofs.Common.{pos}
+use Rattle.std.specs.Int.{w32}
+use Rattle.foundations.specs.Int.{ints}
+use Rattle.records.specs.Equal.{same_bits}
 use Rattle.record_rules.proofs.numbers.is_zero.Goals as goal
 
 pub returns : goal.returns
-unfolding eq_z
-returns c = simp (machine, c.ranges.x)
+returns c = same_bits w32 c.args.x (pos 0) c.ranges.x (omega ints)

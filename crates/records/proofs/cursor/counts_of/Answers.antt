@@ -1,6 +1,5 @@
 -- `counts_of` meets its contract. Assumes nothing.
 use mathlib.Core.Path.{ap, ◌∙◌}
-use native.Mathlib.Omega.{arith}
 use Rattle.records.specs.Cursor.{counted}
 use Rattle.records.specs.Others.{others_of}
 use Rattle.records.specs.Places.{size_known, found_known}
@@ -17,10 +16,6 @@ child_count-children-requires c =
 pub degree-requires : goal.degree-requires
 degree-requires c =
     let p = c.requires in (found_known p.inputs _ p.v_low).low
-
-pub others_of-others-requires : goal.others_of-others-requires
-others_of-others-requires c =
-    let p = c.requires in omega (arith, p.q_low, c.degree.ensures, (found_known p.inputs _ p.v_low).degree)
 
 pub returns : goal.returns
 returns c =
