@@ -1,12 +1,12 @@
 -- A refusal and its number: each number from 1 to 26 is that of one refusal; and what an answer is, from the number in it. Assumes nothing.
-use Rattle.std.specs.Prelude.{◌≡◌, refl, ◌≢◌, true, ℕ, ◌+◌, ◌-◌, ◌≤◌, eqb, Result, Ok, Err, IsErrAnd, MatchResult}
+use Rattle.std.specs.Prelude.{◌≡◌, refl, ◌≢◌, true, ℕ, ◌+◌, ◌-◌, ◌≤◌, eqb, Result, Ok, Err, IsErrAnd, MatchResult, ◌↔◌}
 use Rattle.std.proofs.Common.{sym, ap, ◌∙◌, arith, eqb-true}
 use Rattle.foundations.specs.Lists.{every, every_at}
 use Rattle.model.specs.declared.refusal.TreeFault.{TreeFault}
 use Rattle.model.specs.declared.refusal.TreeFault.TheVariants.{Shape, Labels, Ends, Cycle, Degree, Serials}
 use Rattle.model.specs.declared.refusal.Refusal.{Refusal}
 use Rattle.model.specs.declared.refusal.Refusal.TheVariants.{TableShape, TableWeights, Recorded, Found, WorkShort, JobRecord, JobTrees, WorkNumber, JobUnfinished, MappingShort, CertificateShort, CertificateShape, CertificateMapping, CertificateWeight, CertificateRecord, CertificateAnswer}
-use Rattle.model.specs.Refusals.{tree_number, item_number, refusals, with_number, Answer, refusal_in, fault_in}
+use Rattle.model.specs.Refusals.{tree_number, item_number, refusals, with_number, Answer, refusal_in, RefusedBy, fault_in}
 
 pub with_own_number : (e : Refusal) → with_number (item_number e) ≡ e
 unfolding with_number refusals
@@ -90,6 +90,10 @@ module _ {A : Type 0} where
   pub given_is : (a : Answer A) → refusal_in a ≡ 0 → (x : A) × (a ≡ Ok x)
   given_is (Ok x) e = (x, refl)
   given_is (Err d) e = absurd (number_some d e)
+
+  pub refused_by : (k : ℕ) (a : Answer A) → RefusedBy k a ↔ ((k ≡ refusal_in a) × (k ≢ 0))
+  refused_by k (Ok x) = (λ h. elim h [ ], λ p. absurd (p.1 p.0))
+  refused_by k (Err e) = (λ h. (sym h, λ z. number_some e (h ∙ z)), λ p. sym p.0)
 
   -- what the exit of a `?` returns: e, of a part of the items; so it is the first of all that apply
   pub sent_on : (a : Answer A) (e : Refusal) {part whole : ℕ} → IsErrAnd a (λ d. d ≡ e) → item_number e ≡ part → (part ≢ 0 → whole ≡ part) → refusal_in a ≡ whole

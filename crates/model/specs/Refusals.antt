@@ -1,5 +1,5 @@
 -- A call is refused by the first of its items that applies. Paper 01, "Why a call is turned down".
-use Rattle.std.specs.Prelude.{ℕ, ◌+◌, ◌-◌, Bool, cond, List, [], ◌∷◌, get_or, Result, Ok, Err}
+use Rattle.std.specs.Prelude.{ℕ, ◌+◌, ◌-◌, Bool, cond, List, [], ◌∷◌, get_or, Result, Ok, Err, IsErrAnd, ◌≡◌}
 use Rattle.model.specs.declared.refusal.TreeFault.{TreeFault}
 use Rattle.model.specs.declared.refusal.TreeFault.TheVariants.{Shape, Labels, Ends, Cycle, Degree, Serials}
 use Rattle.model.specs.declared.refusal.Refusal.{Refusal}
@@ -66,7 +66,11 @@ abbrev pub refusal_in : {A : Type 0} → Answer A → ℕ
 refusal_in (Ok given) = 0
 refusal_in (Err refusal) = item_number refusal
 
--- the same of one tree's items
+-- the answer is the refusal with this number
+abbrev pub RefusedBy : {A : Type 0} → ℕ → Answer A → Type 0
+RefusedBy k a = IsErrAnd a (λ e. item_number e ≡ k)
+
+-- the number of one tree's item, 0 where none applies
 abbrev pub fault_in : {A : Type 0} → ℕ → ℕ → Result A TreeFault → ℕ
 fault_in first twice (Ok given) = 0
 fault_in first twice (Err fault) = tree_number first twice fault
