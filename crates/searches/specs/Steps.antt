@@ -1,8 +1,10 @@
 -- The steps of a tally: one pair more, one row more. Assumes nothing.
-use Rattle.std.specs.Prelude.{◌≡◌, List, length, replicate}
+use Rattle.std.specs.Prelude.{◌≡◌, List, length, replicate, take, ℤ}
+use Rattle.std.specs.List.{sum_by}
+use Rattle.std.proofs.lemmas.List.Sums.{sum_by_more}
 use Rattle.std.proofs.Math.Path.{refl, ap}
-use Rattle.std.proofs.Common.{◌∙◌, subst, add-one, div-add-mod'}
-use Prim.Native.Nat.{ℕ, suc, ◌+◌, ◌*◌, ◌/◌, ◌%◌, ◌≤◌, ◌<◌}
+use Rattle.std.proofs.Common.{sym, ◌∙◌, subst, add-one, div-add-mod'}
+use Prim.Native.Nat.{ℕ, zero, suc, ◌+◌, ◌*◌, ◌/◌, ◌%◌, ◌≤◌, ◌<◌}
 use native.Mathlib.Omega.{arith}
 use Rattle.std.proofs.Math.Nat.{mul-le-mul}
 use Rattle.std.proofs.Math.Arith.{digits_div, digits_mod}
@@ -12,7 +14,11 @@ use Rattle.model.specs.Tree.{count}
 use Rattle.model.specs.Graph.{neighbours}
 use Rattle.model.specs.Order.{offset, width, subproblems}
 use Rattle.trees.specs.Positions.{offset_up}
-use Rattle.plan.specs.Plan.{offset_in, order_in, Ready}
+use Rattle.model.specs.Jobs.{start_item}
+use Rattle.trees.specs.Accepted.{Sound}
+use Rattle.formats.specs.Inputs.{input_sound}
+use Rattle.job_items.specs.Items.{start_passed}
+use Rattle.plan.specs.Plan.{offset_in, order_in, Ready, Lent, Planned}
 use Rattle.plan.specs.Numbers.{Located, ready_sound, width_some, offset_width, offsets_are}
 use Rattle.plan.specs.Pairs.{children_few, degree_few}
 use Rattle.assignment.specs.Loops.{far}
@@ -23,6 +29,28 @@ use Rattle.solver.specs.Bound.{pair_most, search_most}
 use Rattle.searches.specs.declared.pairs.Tally.{Tally}
 use Rattle.searches.specs.Bounds.{bound_to, most_whole, bound_next, bound_few}
 use Rattle.searches.specs.Calls.{PairCounts, Tallied}
+
+-- ---- where no item of a start applies
+
+module _ (table r f : List ℕ) (work : List ℤ) {item : ℕ} (e : item ≡ start_item table r f work) (none : item ≡ 0) where
+  pub zero_item : start_item table r f work ≡ 0
+  zero_item = sym e ∙ none
+
+  pub sound_trees : Sound r × Sound f
+  sound_trees = input_sound table r f (start_passed table r f work zero_item).0
+
+  pub lent_work : Lent r f work
+  lent_work = record { enough = (start_passed table r f work zero_item).1 }
+
+  pub ready_plan : {plan : List (List ℕ)} → Planned r f plan → Ready table r f plan
+  ready_plan P = record { passes = (start_passed table r f work zero_item).0; planned = P }
+
+-- ---- the looks of a pair
+
+pub sum_taken : (n : ℕ) (xs : List ℕ) → n ≤ length xs → sum_by (λ x. x) (take n xs) ≡ sum n (at xs)
+unfolding sum
+sum_taken zero xs h = refl
+sum_taken (suc n) xs h = rw (← sum_taken n xs (omega arith)) (rw add-one at (sum_by_more (λ x. x) xs n 0 h))
 
 -- nothing yet
 pub tally_none : (r f : List ℕ) {t : Tally} → t.item ≡ 0 → t.searches ≡ 0 → t.most ≡ 0 → t.looks ≡ 0 → t.reached ≡ 0 → t.greatest ≡ 0 → Tallied r f 0 t

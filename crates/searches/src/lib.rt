@@ -11,8 +11,10 @@ use job_items::start_item;
 use model::Limits;
 use plan::Blocks;
 use plan::counts::subproblem_count;
+use plan::instance::Instance;
 use planning::make;
 use solver::fill::fill_counted;
+use solver::subproblem::Scratch;
 
 // Entry point.
 // Fills all work numbers and sets the counts to the searches that this takes and how often these look at each pair of places. The answer is 0, or the
@@ -32,9 +34,16 @@ pub fn count_searches(
     }
     let mut plan = [[0u8; Limits::PLACES]; Blocks::ALL];
     make(&mut plan, recorded, found);
+    let on = Instance {
+        table,
+        recorded,
+        found,
+        plan: &plan,
+    };
     let all = subproblem_count(recorded, found);
-    *counts = [0u64; Limits::PAIRS + 1];
-    fill_counted(counts, table, recorded, found, &plan, work, 0, all);
+    let mut scratch = Scratch::new();
+    fill_counted(&mut scratch, &on, work, 0, all);
+    *counts = scratch.counts;
     0
 }
 
@@ -49,5 +58,11 @@ pub fn tally_searches(table: &[u8], recorded: &[u8], found: &[u8], work: &mut [i
     }
     let mut plan = [[0u8; Limits::PLACES]; Blocks::ALL];
     make(&mut plan, recorded, found);
-    tally_all(table, recorded, found, &plan, work)
+    let on = Instance {
+        table,
+        recorded,
+        found,
+        plan: &plan,
+    };
+    tally_all(&on, work)
 }
