@@ -2,7 +2,7 @@
 ghost use Rattle.std.specs.Prelude.{◌≡◌};
 ghost use Rattle.model.specs.Writing.{write_refusal, length_of};
 
-use model::WriteAnswer;
+use model::Refusal;
 
 // The answer of writing as two numbers: the item that refused the call, 0 for none, and the certificate's length in bytes, 0 where there is none.
 #[repr(C)]
@@ -12,17 +12,16 @@ pub struct WriteResult {
     pub length: u32,
 }
 
-pub fn write_result(a: WriteAnswer) -> WriteResult
-    ensures { (result.refusal ≡ write_refusal a) × (result.length ≡ length_of a) }
-{
-    match a {
-        WriteAnswer::Written(l) => WriteResult {
-            refusal: 0,
-            length: l,
-        },
-        WriteAnswer::Refused(k) => WriteResult {
-            refusal: k as u32,
-            length: 0,
-        },
+impl From<Result<u32, Refusal>> for WriteResult {
+    ghost from_gives = { λ a r. (r.refusal ≡ write_refusal a) × (r.length ≡ length_of a) };
+
+    fn from(answer: Result<u32, Refusal>) -> WriteResult {
+        match answer {
+            Ok(length) => WriteResult { refusal: 0, length },
+            Err(refusal) => WriteResult {
+                refusal: refusal.into(),
+                length: 0,
+            },
+        }
     }
 }

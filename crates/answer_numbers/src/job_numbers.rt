@@ -1,9 +1,10 @@
 //! The caller's record of a job and the answers of start and advance as numbers. Any bytes may stand in that record.
-ghost use Rattle.std.specs.Prelude.{◌≡◌, cond};
+ghost use Rattle.std.specs.Prelude.{◌≡◌};
 ghost use Rattle.model.specs.Jobs.{start_refusal, advance_refusal, advance_count};
 ghost use Rattle.answer_numbers.specs.Memory.{record_of, memory_of, memory_after};
 
-use model::{AdvanceAnswer, JobRecord, StartAnswer};
+use model::refusal::refusal_in;
+use model::{JobRecord, Refusal};
 
 // The caller's record of a job: 0 in `idle` says that it is not idle, any other number that it is.
 #[repr(C)]
@@ -17,34 +18,33 @@ pub struct JobMemory {
 }
 
 // The record that it stands for.
-pub fn record_of(x: JobMemory) -> JobRecord
-    ensures { result ≡ record_of x }
-{
-    JobRecord {
-        idle: x.idle != 0,
-        n: x.n,
-        m: x.m,
-        position: x.position,
-        total: x.total,
+impl From<JobMemory> for JobRecord {
+    ghost from_gives = { λ x j. j ≡ record_of x };
+
+    #[tactic(auto, unfolding(crate::specs::Memory::record_of))]
+    fn from(x: JobMemory) -> JobRecord {
+        JobRecord {
+            idle: x.idle != 0,
+            n: x.n,
+            m: x.m,
+            position: x.position,
+            total: x.total,
+        }
     }
 }
 
-fn idle_number(idle: bool) -> u32
-    ensures { result ≡ cond idle 1 0 }
-{
-    if idle { 1 } else { 0 }
-}
+impl From<JobRecord> for JobMemory {
+    ghost from_gives = { λ j x. x ≡ memory_of j };
 
-pub fn memory_of(job: JobRecord) -> JobMemory
-    ensures { result ≡ memory_of job }
-{
-    let idle = idle_number(job.idle);
-    JobMemory {
-        idle,
-        n: job.n,
-        m: job.m,
-        position: job.position,
-        total: job.total,
+    #[tactic(auto, unfolding(crate::specs::Memory::memory_of))]
+    fn from(job: JobRecord) -> JobMemory {
+        JobMemory {
+            idle: u32::from(job.idle),
+            n: job.n,
+            m: job.m,
+            position: job.position,
+            total: job.total,
+        }
     }
 }
 
@@ -52,19 +52,14 @@ pub fn memory_of(job: JobRecord) -> JobMemory
 pub fn memory_after(refusal: u32, old: JobMemory, job: JobRecord) -> JobMemory
     ensures { result ≡ memory_after refusal old job }
 {
-    if refusal != 0 {
-        return old;
-    }
-    memory_of(job)
+    if refusal != 0 { old } else { job.into() }
 }
 
-pub fn start_number(a: StartAnswer) -> u32
-    ensures { result ≡ start_refusal a }
+// A start's answer as a number: the item that refused the call, 0 for none.
+pub fn start_number(answer: Result<(), Refusal>) -> u32
+    ensures { result ≡ start_refusal answer }
 {
-    match a {
-        StartAnswer::Started => 0,
-        StartAnswer::Refused(k) => k as u32,
-    }
+    u32::from(refusal_in(answer))
 }
 
 // An advance's answer as two numbers: the item that refused the call, 0 for none, and how many subproblems were solved.
@@ -75,17 +70,16 @@ pub struct AdvanceResult {
     pub count: u32,
 }
 
-pub fn advance_result(a: AdvanceAnswer) -> AdvanceResult
-    ensures { (result.refusal ≡ advance_refusal a) × (result.count ≡ advance_count a) }
-{
-    match a {
-        AdvanceAnswer::Advanced(c) => AdvanceResult {
-            refusal: 0,
-            count: c,
-        },
-        AdvanceAnswer::Refused(k) => AdvanceResult {
-            refusal: k as u32,
-            count: 0,
-        },
+impl From<Result<u32, Refusal>> for AdvanceResult {
+    ghost from_gives = { λ a r. (r.refusal ≡ advance_refusal a) × (r.count ≡ advance_count a) };
+
+    fn from(answer: Result<u32, Refusal>) -> AdvanceResult {
+        match answer {
+            Ok(count) => AdvanceResult { refusal: 0, count },
+            Err(refusal) => AdvanceResult {
+                refusal: refusal.into(),
+                count: 0,
+            },
+        }
     }
 }

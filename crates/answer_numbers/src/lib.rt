@@ -8,7 +8,7 @@ pub mod size_numbers;
 ghost use Rattle.std.specs.Prelude.{◌≡◌};
 ghost use Rattle.model.specs.Match.{refusal_of, weight_of};
 
-use model::MatchAnswer;
+use model::Refusal;
 
 // A match's answer as two numbers: the item that refused the call, 0 for none, and the mapping's weight, 0 where there is none.
 #[repr(C)]
@@ -18,17 +18,16 @@ pub struct MatchResult {
     pub weight: i32,
 }
 
-pub fn numbers(a: MatchAnswer) -> MatchResult
-    ensures { (result.refusal ≡ refusal_of a) × (result.weight ≡ weight_of a) }
-{
-    match a {
-        MatchAnswer::Found(w) => MatchResult {
-            refusal: 0,
-            weight: w,
-        },
-        MatchAnswer::Refused(k) => MatchResult {
-            refusal: k as u32,
-            weight: 0,
-        },
+impl From<Result<i32, Refusal>> for MatchResult {
+    ghost from_gives = { λ a r. (r.refusal ≡ refusal_of a) × (r.weight ≡ weight_of a) };
+
+    fn from(answer: Result<i32, Refusal>) -> MatchResult {
+        match answer {
+            Ok(weight) => MatchResult { refusal: 0, weight },
+            Err(refusal) => MatchResult {
+                refusal: refusal.into(),
+                weight: 0,
+            },
+        }
     }
 }

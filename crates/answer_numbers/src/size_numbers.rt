@@ -2,7 +2,7 @@
 ghost use Rattle.std.specs.Prelude.{◌≡◌};
 ghost use Rattle.model.specs.Sizes.{sizes_refusal, sizes_count, sizes_work, sizes_length};
 
-use model::SizesAnswer;
+use model::{Refusal, Sizes};
 
 // The item that refused the call, 0 for none; the count of subproblems, the work numbers wanted and the certificate's length in bytes, 0 each where it
 // was refused.
@@ -15,25 +15,23 @@ pub struct SizesResult {
     pub certificate: u32,
 }
 
-pub fn sizes_result(a: SizesAnswer) -> SizesResult
-    ensures { (result.refusal ≡ sizes_refusal a) × (result.subproblems ≡ sizes_count a) × (result.work ≡ sizes_work a) × (result.certificate ≡ sizes_length a) }
-{
-    match a {
-        SizesAnswer::Sizes {
-            subproblems,
-            work,
-            certificate,
-        } => SizesResult {
-            refusal: 0,
-            subproblems,
-            work,
-            certificate,
-        },
-        SizesAnswer::Refused(k) => SizesResult {
-            refusal: k as u32,
-            subproblems: 0,
-            work: 0,
-            certificate: 0,
-        },
+impl From<Result<Sizes, Refusal>> for SizesResult {
+    ghost from_gives = { λ a r. (r.refusal ≡ sizes_refusal a) × (r.subproblems ≡ sizes_count a) × (r.work ≡ sizes_work a) × (r.certificate ≡ sizes_length a) };
+
+    fn from(answer: Result<Sizes, Refusal>) -> SizesResult {
+        match answer {
+            Ok(sizes) => SizesResult {
+                refusal: 0,
+                subproblems: sizes.subproblems,
+                work: sizes.work,
+                certificate: sizes.certificate,
+            },
+            Err(refusal) => SizesResult {
+                refusal: refusal.into(),
+                subproblems: 0,
+                work: 0,
+                certificate: 0,
+            },
+        }
     }
 }

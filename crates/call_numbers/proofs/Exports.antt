@@ -6,9 +6,8 @@ use Rattle.foundations.specs.Tests.{same?}
 use Rattle.model.specs.declared.JobRecord.{JobRecord}
 use Rattle.model.specs.declared.StartOutcome.{StartOutcome}
 use Rattle.model.specs.declared.AdvanceOutcome.{AdvanceOutcome}
-use Rattle.model.specs.declared.MatchAnswer.{MatchAnswer}
-use Rattle.model.specs.declared.WriteAnswer.{WriteAnswer}
-use Rattle.model.specs.declared.SizesAnswer.{SizesAnswer}
+use Rattle.model.specs.declared.Sizes.{Sizes}
+use Rattle.model.specs.Refusals.{Answer}
 use Rattle.model.specs.Tree.{count}
 use Rattle.model.specs.Calls.{match_item}
 use Rattle.model.specs.Mapping.{Heaviest, weight}
@@ -32,9 +31,9 @@ numbered item k none some = ⊎_elim (λ z. none z ∙ sym z) some (same? item 0
 by_item : {A : Type 0} (item : ℕ) (x y v : A) → (item ≡ 0 → v ≡ x) → (item ≢ 0 → v ≡ y) → v ≡ cond (eqb item 0) x y
 by_item item x y v none some = ⊎_elim (λ z. none z ∙ sym (where_none item x y z)) (λ n. some n ∙ sym (where_item item x y n)) (same? item 0)
 
-pub exported : {table r f : List ℕ} {work : List ℤ} {mapping : List ℕ} {work' : List ℤ} {mapping' : List ℕ} {a : MatchAnswer} {refusal : ℕ} {w : ℤ}
+pub exported : {table r f : List ℕ} {work : List ℤ} {mapping : List ℕ} {work' : List ℤ} {mapping' : List ℕ} {a : Answer ℤ} {refusal : ℕ} {w : ℤ}
     → MatchCall table r f work mapping work' mapping' a → refusal ≡ refusal_of a → w ≡ weight_of a → Matches table r f work mapping work' mapping' refusal w
-unfolding match_weight weight_of
+unfolding match_weight
 exported {table} {r} {f} {work} {mapping} {work'} {mapping'} {a} {refusal} call number weighs =
     let item = match_item table r f work mapping in
     let is : refusal ≡ item = number ∙ numbered item (refusal_of a) (λ z. (call.matched z).number) (λ n. (call.refused n).number) in
@@ -79,9 +78,9 @@ module _ (x : JobMemory) (table r f : List ℕ) (work : List ℤ) where
           fills = call.fills ∙ ap (λ (j : JobRecord). advance_work j table r f b work) eh;
         }
 
-finishes_record : {j : JobRecord} {table r f : List ℕ} {work : List ℤ} {mapping mapping' : List ℕ} {a : MatchAnswer} {refusal : ℕ} {w : ℤ}
+finishes_record : {j : JobRecord} {table r f : List ℕ} {work : List ℤ} {mapping mapping' : List ℕ} {a : Answer ℤ} {refusal : ℕ} {w : ℤ}
     → FinishCall j table r f work mapping mapping' a → refusal ≡ refusal_of a → w ≡ weight_of a → Finishes j table r f work mapping mapping' refusal w
-unfolding finish_weight weight_of
+unfolding finish_weight
 finishes_record {j} {table} {r} {f} {work} {mapping} {mapping'} {a} {refusal} call number weighs =
     let item = finish_item j table r f work mapping in
     let is : refusal ≡ item = number ∙ finish_refusal j table r f work mapping mapping' a call in
@@ -95,12 +94,12 @@ finishes_record {j} {table} {r} {f} {work} {mapping} {mapping'} {a} {refusal} ca
       answered = λ z e. weighs ∙ ap weight_of ((call.finished (sym is ∙ z)).answered e);
     }
 
-pub finishes : (x : JobMemory) (h : JobRecord) {table r f : List ℕ} {work : List ℤ} {mapping mapping' : List ℕ} {a : MatchAnswer} {refusal : ℕ} {w : ℤ}
+pub finishes : (x : JobMemory) (h : JobRecord) {table r f : List ℕ} {work : List ℤ} {mapping mapping' : List ℕ} {a : Answer ℤ} {refusal : ℕ} {w : ℤ}
     → h ≡ record_of x → FinishCall h table r f work mapping mapping' a → refusal ≡ refusal_of a → w ≡ weight_of a
     → Finishes (record_of x) table r f work mapping mapping' refusal w
 finishes x h {table} {r} {f} {work} {mapping} {mapping'} {a} eh call = finishes_record (subst (λ (j : JobRecord). FinishCall j table r f work mapping mapping' a) eh call)
 
-pub writes : {table r f : List ℕ} {work : List ℤ} {certificate : List ℕ} {work' : List ℤ} {certificate' : List ℕ} {a : WriteAnswer} {refusal l : ℕ}
+pub writes : {table r f : List ℕ} {work : List ℤ} {certificate : List ℕ} {work' : List ℤ} {certificate' : List ℕ} {a : Answer ℕ} {refusal l : ℕ}
     → WriteCall table r f work certificate work' certificate' a → refusal ≡ write_refusal a → l ≡ length_of a → Writes table r f work certificate work' certificate' refusal l
 unfolding write_length
 writes {table} {r} {f} {work} {certificate} {work'} {certificate'} {a} {refusal} {l} call number measures =
@@ -120,7 +119,7 @@ writes {table} {r} {f} {work} {certificate} {work'} {certificate'} {a} {refusal}
       heaviest_in = λ z. subst (λ (x : ℕ). Heaviest table r f (mapping_in r (take x certificate'))) (long z) (call.written (sym is ∙ z)).heaviest_in;
     }
 
-pub sizes_numbers : {table r f : List ℕ} {a : SizesAnswer} {refusal s w c : ℕ}
+pub sizes_numbers : {table r f : List ℕ} {a : Answer Sizes} {refusal s w c : ℕ}
     → SizesCall table r f a → refusal ≡ sizes_refusal a → s ≡ sizes_count a → w ≡ sizes_work a → c ≡ sizes_length a → SizesNumbers table r f refusal s w c
 sizes_numbers call k s w c =
     let n = call.numbers in

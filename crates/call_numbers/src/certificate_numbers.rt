@@ -1,7 +1,7 @@
 //! Writing a certificate, with its answer as numbers.
 ghost use Rattle.call_numbers.specs.Exported.{Writes};
 
-use answer_numbers::certificate_numbers::{WriteResult, write_result};
+use answer_numbers::certificate_numbers::WriteResult;
 
 // Writes a certificate into the front of `certificate`.
 pub fn write_numbers(
@@ -14,5 +14,5 @@ pub fn write_numbers(
     ensures { Writes table.now recorded.now found.now work.old certificate.old work.new certificate.new result.refusal result.length }
 {
     let a = write::write_certificate(table, recorded, found, work, certificate);
-    write_result(a)
+    a.into()
 }

@@ -2,10 +2,9 @@
 ghost use Rattle.call_numbers.specs.Exported.{Starts, Advances, Finishes};
 ghost use Rattle.answer_numbers.specs.Memory.{record_of};
 
-use answer_numbers::job_numbers::{
-    AdvanceResult, JobMemory, advance_result, memory_after, record_of, start_number,
-};
-use answer_numbers::{MatchResult, numbers};
+use answer_numbers::MatchResult;
+use answer_numbers::job_numbers::{AdvanceResult, JobMemory, memory_after, start_number};
+use model::JobRecord;
 
 // What a start leaves and answers: the memory after the call, and the item that refused it, 0 for none.
 #[derive(Clone, Copy)]
@@ -23,12 +22,10 @@ pub fn start_numbers(
 ) -> StartNumbers
     ensures { Starts job table.now recorded.now found.now work.now result.job result.refusal }
 {
-    let held = record_of(job);
+    let held = JobRecord::from(job);
     let out = jobs::start_core(held, table, recorded, found, work);
-    let next = out.job;
-    let answer = out.answer;
-    let refusal = start_number(answer);
-    let left = memory_after(refusal, job, next);
+    let refusal = start_number(out.answer);
+    let left = memory_after(refusal, job, out.job);
     StartNumbers { job: left, refusal }
 }
 
@@ -49,12 +46,10 @@ pub fn advance_numbers(
 ) -> AdvanceNumbers
     ensures { Advances job table.now recorded.now found.now budget work.old result.job work.new result.result.refusal result.result.count }
 {
-    let held = record_of(job);
+    let held = JobRecord::from(job);
     let out = jobs::advance_core(held, table, recorded, found, budget, work);
-    let next = out.job;
-    let answer = out.answer;
-    let result = advance_result(answer);
-    let left = memory_after(result.refusal, job, next);
+    let result = AdvanceResult::from(out.answer);
+    let left = memory_after(result.refusal, job, out.job);
     AdvanceNumbers { job: left, result }
 }
 
@@ -68,7 +63,7 @@ pub fn finish_result(
 ) -> MatchResult
     ensures { Finishes (record_of job) table.now recorded.now found.now work.now mapping.old mapping.new result.refusal result.weight }
 {
-    let held = record_of(job);
+    let held = JobRecord::from(job);
     let a = jobs::finish(held, table, recorded, found, work, mapping);
-    numbers(a)
+    a.into()
 }

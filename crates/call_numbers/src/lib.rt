@@ -7,7 +7,7 @@ pub mod size_numbers;
 
 ghost use Rattle.call_numbers.specs.Exported.{Matches};
 
-use answer_numbers::{MatchResult, numbers};
+use answer_numbers::MatchResult;
 
 // The match in one call.
 pub fn match_numbers(
@@ -20,5 +20,5 @@ pub fn match_numbers(
     ensures { Matches table.now recorded.now found.now work.old mapping.old work.new mapping.new result.refusal result.weight }
 {
     let a = one_call::match_trees(table, recorded, found, work, mapping);
-    numbers(a)
+    a.into()
 }

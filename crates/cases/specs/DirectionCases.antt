@@ -6,7 +6,6 @@ use Rattle.foundations.specs.Counting.{cnt}
 use Rattle.foundations.specs.Lists.{every, tab, below, cat}
 use Rattle.foundations.specs.Members.{mem, del, place}
 use Rattle.foundations.specs.Sums.{sumℤ}
-use Rattle.model.specs.declared.SizesAnswer.TheVariants.{Sizes}
 use Rattle.model.specs.Bytes.{signed32, bits32}
 use Rattle.model.specs.Calls.{input_item}
 use Rattle.model.specs.Certificate.{squares, certificate_length, record_length, record_at, mapping_in, value_in, child_dual, other_dual, value_of, eq_z, at_most, shape_ok, forbidden_ok, cover_ok, duals_ok, pair_ok, subproblem_ok, check_of}
@@ -22,7 +21,7 @@ use Rattle.model.specs.Table.{vertex_weight, edge_weight, table_sized, table_mar
 use Rattle.model.specs.Tree.{with_serials, vertex_mark_of, vertex_size, serial, serial_new, serials_differ, sized, marked, labels_known, ends_low, closes, acyclic, degree, few_edges}
 use Rattle.model.specs.Values.{greatest, best, value_from, value_to, value, largest, answer}
 use Rattle.model.specs.Weights.{none, some, is_forbidden, in_range, weight_ok, weighed}
-use Rattle.cases.specs.Expected.{Expected, weighs, refused, checked, told, Row, plant, All, end, ◌then◌, by_test}
+use Rattle.cases.specs.Expected.{Expected, weighs, refused, checked, told, lend, Row, plant, All, end, ◌then◌, by_test}
 use Rattle.cases.specs.CertificateCases.{records_of, certificate_of}
 use Rattle.cases.specs.Plants.{word_bytes, weights, rows, table_of, vertex_bytes, edge_by, edge, table_p}
 
@@ -209,7 +208,7 @@ certificate_plants =
     ∷ flow (two 6 0 1) (two 4 0 1) (refused 4)
     ∷ flow (two 4 0 1) (two 8 0 1) (refused 9)
     ∷ plant 0 table_p (two 4 0 1) (two 0 0 1) (refused 4)
-    ∷ flow (two 4 0 1) (two 4 1 0) (told (Sizes 8 8 94))
+    ∷ flow (two 4 0 1) (two 4 1 0) (told (lend 8 8 94))
     ∷ []
 
 pub direction_certificates : All certificate_plants

@@ -1,11 +1,12 @@
 -- What a table of cases says of the definitions: a row is a case's number, its table and two trees, and what is expected of them.
 -- Assumes nothing.
-use Rattle.std.specs.Prelude.{◌≡◌, true, List, [], ◌∷◌, ℕ, ℤ}
+use Rattle.std.specs.Prelude.{◌≡◌, true, List, [], ◌∷◌, ℕ, ℤ, Ok, Err}
 use Rattle.std.proofs.Common.{sym, ◌∙◌}
-use Rattle.model.specs.declared.SizesAnswer.{SizesAnswer}
+use Rattle.model.specs.declared.Sizes.{Sizes}
 use Rattle.model.specs.Calls.{input_item}
 use Rattle.model.specs.Certificate.{check_of}
 use Rattle.model.specs.Mapping.{Heaviest, weight, mapping_ok}
+use Rattle.model.specs.Refusals.{Answer, with_number}
 use Rattle.model.specs.Sizes.{sizes_of}
 use Rattle.model.specs.Values.{answer}
 use Rattle.subtrees.proofs.Theorems.{heaviest_exactly, quick_mapping}
@@ -16,7 +17,14 @@ pub data Expected : Type 0 where
   weighs : ℤ → List ℕ → Expected
   refused : ℕ → Expected
   checked : List ℕ → ℕ → Expected
-  told : SizesAnswer → Expected
+  told : Answer Sizes → Expected
+
+-- the answer to how much to lend: the subproblems, the work numbers wanted and a certificate's length; or the number of an item
+abbrev pub lend : ℕ → ℕ → ℕ → Answer Sizes
+lend subproblems work certificate = Ok (record { subproblems = subproblems; work = work; certificate = certificate })
+
+abbrev pub refused_by : ℕ → Answer Sizes
+refused_by item = Err (with_number item)
 
 pub data Row : Type 0 where
   plant : ℕ → List ℕ → List ℕ → List ℕ → Expected → Row

@@ -5,7 +5,6 @@ use Rattle.foundations.specs.Counting.{cnt}
 use Rattle.foundations.specs.Lists.{every, tab, below, cat}
 use Rattle.foundations.specs.Members.{mem, del, place}
 use Rattle.foundations.specs.Sums.{sumℤ}
-use Rattle.model.specs.declared.SizesAnswer.TheVariants.{Sizes, Refused}
 use Rattle.model.specs.Bytes.{signed32, bits32}
 use Rattle.model.specs.Calls.{input_item}
 use Rattle.model.specs.Certificate.{squares, certificate_length, record_length, record_at, mapping_in, value_in, child_dual, other_dual, value_of, eq_z, at_most, shape_ok, forbidden_ok, cover_ok, duals_ok, pair_ok, subproblem_ok, check_of}
@@ -21,7 +20,7 @@ use Rattle.model.specs.Table.{vertex_weight, edge_weight, table_sized, table_mar
 use Rattle.model.specs.Tree.{with_serials, vertex_mark_of, vertex_size, serial, serial_new, serials_differ, sized, marked, labels_known, ends_low, closes, acyclic, degree, few_edges}
 use Rattle.model.specs.Values.{greatest, best, value_from, value_to, value, largest, answer}
 use Rattle.model.specs.Weights.{is_forbidden, in_range, weight_ok, weighed}
-use Rattle.cases.specs.Expected.{Expected, weighs, refused, checked, told, Row, plant, All, end, ◌then◌, by_test}
+use Rattle.cases.specs.Expected.{Expected, weighs, refused, checked, told, lend, refused_by, Row, plant, All, end, ◌then◌, by_test}
 use Rattle.cases.specs.CertificateCases.{records_of, certificate_of}
 use Rattle.cases.specs.Plants.{word_bytes, weights, rows, table_of, vertex_bytes, edge_by, edge, edges_of, tree_of, path, serial_records, head_with, path_with, star_with, unknown, table_p, table7, table8, certificate1}
 
@@ -108,9 +107,9 @@ serial_plants =
     -- the check and how much to lend test 25 and 26 too; serials change no length
     ∷ plant 0 table_p (path_with (0 ∷ 0 ∷ []) (7 ∷ 7 ∷ [])) (path (0 ∷ [])) (checked [] 25)
     ∷ plant 0 table_p (path (0 ∷ [])) (path_with (0 ∷ 0 ∷ []) (7 ∷ 7 ∷ [])) (checked [] 26)
-    ∷ plant 0 table_p (path_with (0 ∷ 0 ∷ []) (7 ∷ 7 ∷ [])) (path (0 ∷ [])) (told (Refused 25))
-    ∷ plant 0 table_p (path (0 ∷ [])) (path_with (0 ∷ 0 ∷ []) (7 ∷ 7 ∷ [])) (told (Refused 26))
-    ∷ third (7 ∷ 8 ∷ []) (9 ∷ 7 ∷ []) (told (Sizes 8 8 94))
+    ∷ plant 0 table_p (path_with (0 ∷ 0 ∷ []) (7 ∷ 7 ∷ [])) (path (0 ∷ [])) (told (refused_by 25))
+    ∷ plant 0 table_p (path (0 ∷ [])) (path_with (0 ∷ 0 ∷ []) (7 ∷ 7 ∷ [])) (told (refused_by 26))
+    ∷ third (7 ∷ 8 ∷ []) (9 ∷ 7 ∷ []) (told (lend 8 8 94))
     -- item 25: behind 7, before 8, with 26; of serials that are no neighbours; of the greatest; and item 26, behind 12
     ∷ as_recorded (star_with (replicate 10 0) (replicate 10 7)) 7
     ∷ plant 0 table_p (path_with (0 ∷ 0 ∷ []) (7 ∷ 7 ∷ [])) [] (refused 25)

@@ -5,8 +5,8 @@ use Rattle.foundations.specs.Tests.{same, same?, eqb_same, one_at_most}
 use Rattle.foundations.specs.Lists.{every, every_step, tab, length_tab, get_d_tab, tab_ext}
 use Rattle.model.specs.Edges.{component}
 use Rattle.model.specs.Limits.{vertex_limit}
-use Rattle.model.specs.Refusals.{Item, item, first_of}
-use Rattle.model.specs.Tree.{count, end_a, end_b, sized, marked, labels_known, ends_low, closes, acyclic, degree, few_edges, serials_differ, tree_item}
+use Rattle.model.specs.Refusals.{Item, item}
+use Rattle.model.specs.Tree.{end_a, end_b, labels_known, ends_low, closes, acyclic, degree, few_edges, serials_differ}
 
 abbrev pub items_from6 : ℕ → ℕ → List ℕ → ℕ → List Item
 items_from6 first twice s n = item (first + 3) (not (acyclic s n)) ∷ item (first + 4) (not (few_edges s n)) ∷ item twice (not (serials_differ s n)) ∷ []
@@ -16,28 +16,6 @@ items_from5 first twice s n = item (first + 2) (not (ends_low s n)) ∷ items_fr
 
 abbrev pub items_from4 : ℕ → ℕ → List ℕ → ℕ → ℕ → ℕ → List Item
 items_from4 first twice s n K L = item (first + 1) (not (labels_known s n K L)) ∷ items_from5 first twice s n
-
--- the found tree's item for the recorded one's: five more, and 26 for 25
-abbrev pub found_number : ℕ → ℕ
-found_number k = cond (eqb k 0) 0 (cond (eqb k 25) 26 (k + 5))
-
--- a tree's items by what it passes
-abbrev pub six : ℕ → ℕ → Bool → Bool → Bool → Bool → Bool → Bool → List Item
-six first twice a b c d e f = item first (not a) ∷ item (first + 1) (not b) ∷ item (first + 2) (not c) ∷ item (first + 3) (not d) ∷ item (first + 4) (not e) ∷ item twice (not f) ∷ []
-
-small : (a b c d e f : Bool) → first_of (six 3 25 a b c d e f) ≤ 25
-unfolding first_of
-small false b c d e f = omega arith
-small true false c d e f = omega arith
-small true true false d e f = omega arith
-small true true true false e f = omega arith
-small true true true true false f = omega arith
-small true true true true true false = omega arith
-small true true true true true true = omega arith
-
-pub item_small : (s : List ℕ) (K L : ℕ) → tree_item 3 25 s K L ≤ 25
-unfolding tree_item
-item_small s K L = small (sized s && marked s (count s)) (labels_known s (count s) K L) (ends_low s (count s)) (acyclic s (count s)) (few_edges s (count s)) (serials_differ s (count s))
 
 -- ---- one turn of the test for cycles, of the merging, and of a degree
 

@@ -3,12 +3,13 @@
 ghost use Rattle.std.specs.Prelude.{◌≡◌, ◌+◌, ◌<◌, ◌≤◌, ◌^◌, length};
 ghost use Rattle.foundations.specs.Lists.{every};
 ghost use Rattle.model.specs.Bytes.{is_mark, int32_at};
+ghost use Rattle.model.specs.Refusals.{refusal_in};
 ghost use Rattle.model.specs.Weights.{weight_ok};
 ghost use Rattle.model.specs.Table.{vertex_labels, edge_labels, vertex_row, edge_row, column, table_sized, table_marked, row_ok, weights_ok, table_item};
 ghost use Rattle.formats.specs.Table.{EdgeRowsStart, table_size, vertex_block, edge_block, row_start, BlockOf, BlockIn, RowAt, TableSized};
 
 use lengths::{edge_row_length, table_head_length, vertex_row_length};
-use model::Limits;
+use model::{Limits, Refusal};
 
 // A block of rows: where its first row stands, how many rows it has, each of as many weights, and how many bytes a row has.
 #[derive(Clone, Copy)]
@@ -160,23 +161,23 @@ fn weights_ok(table: &[u8]) -> bool
     vertices & edges
 }
 
-// The first of the items 1 and 2 that applies to a table, 0 for none.
-pub fn table_item(table: &[u8]) -> u8
-    ensures { result ≡ table_item table.now }
+// The first of the items 1 and 2 that applies to a table.
+pub fn table_item(table: &[u8]) -> Result<(), Refusal>
+    ensures { refusal_in result ≡ table_item table.now }
 {
     let sized = is_sized(table);
     if !sized {
-        return 1;
+        return Err(Refusal::TableShape);
     }
     let marked = is_marked(table);
     if !marked {
-        return 1;
+        return Err(Refusal::TableShape);
     }
     let fine = weights_ok(table);
     if !fine {
-        return 2;
+        return Err(Refusal::TableWeights);
     }
-    0
+    Ok(())
 }
 
 // The weight in column j of the row at `row`.

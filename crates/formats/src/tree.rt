@@ -1,18 +1,18 @@
 //! Why a tree is refused: items 3 to 7 and 25, and 8 to 12 and 26 for the found tree; its count, labels and edge ends.
-ghost use Rattle.std.specs.Prelude.{◌+◌, ◌≤◌, ◌<◌, ◌-◌, get_or, eqb, ltb, ◌≡◌, true, ◌&&◌, cond};
+ghost use Rattle.std.specs.Prelude.{ℕ, ◌+◌, ◌≤◌, ◌<◌, ◌-◌, get_or, eqb, ltb, ◌≡◌, true, ◌&&◌, cond};
 ghost use Rattle.foundations.specs.Lists.{every, tab};
 ghost use Rattle.model.specs.Bytes.{is_mark, edge_mark};
 ghost use Rattle.model.specs.Limits.{vertex_limit};
-ghost use Rattle.model.specs.Refusals.{first_of};
+ghost use Rattle.model.specs.Refusals.{first_of, fault_in};
 ghost use Rattle.model.specs.Tree.{count, vertex_label, end_a, end_b, edge_label_at, vertex_mark_of, vertex_start, edge_start, sized, marked, labels_known, ends_low, acyclic, degree, few_edges, tree_item};
 ghost use Rattle.trees.specs.Accepted.{Whole, Ends};
-ghost use Rattle.formats.specs.TreeItems.{items_from4, items_from5, items_from6, found_number};
+ghost use Rattle.formats.specs.TreeItems.{items_from4, items_from5, items_from6};
 
 use crate::marks::is_mark;
 use crate::places::{edge_start, tree_size, vertex_start, with_serials};
 use crate::serials::do_serials_differ;
 use lengths::tree_head_length;
-use model::{Limits, VertexTable};
+use model::{Limits, TreeFault, VertexTable};
 use std::array;
 
 // ---- the bytes of an accepted tree
@@ -228,80 +228,60 @@ fn are_edges_few(s: &[u8], n: usize) -> bool
 
 // ---- the first item that applies
 
-fn item_from_6(s: &[u8], n: usize) -> u8
+fn item_from_6(s: &[u8], n: usize) -> Result<(), TreeFault>
     requires { Ends s.now n }
-    ensures { result ≡ first_of (items_from6 3 25 s.now n) }
+    ensures { (first twice : ℕ) → fault_in first twice result ≡ first_of (items_from6 first twice s.now n) }
 {
     let tree = is_acyclic(s, n);
     if !tree {
-        return 6;
+        return Err(TreeFault::Cycle);
     }
     let few = are_edges_few(s, n);
     if !few {
-        return 7;
+        return Err(TreeFault::Degree);
     }
     let differ = do_serials_differ(s, n);
     if !differ {
-        return 25;
+        return Err(TreeFault::Serials);
     }
-    0
+    Ok(())
 }
 
-fn item_from_5(s: &[u8], n: usize) -> u8
+fn item_from_5(s: &[u8], n: usize) -> Result<(), TreeFault>
     requires { Whole s.now n }
-    ensures { result ≡ first_of (items_from5 3 25 s.now n) }
+    ensures { (first twice : ℕ) → fault_in first twice result ≡ first_of (items_from5 first twice s.now n) }
 {
     let low = are_ends_low(s, n);
     if !low {
-        return 5;
+        return Err(TreeFault::Ends);
     }
     item_from_6(s, n)
 }
 
-fn item_from_4(s: &[u8], n: usize, k: u8, l: u8) -> u8
+fn item_from_4(s: &[u8], n: usize, k: u8, l: u8) -> Result<(), TreeFault>
     requires { Whole s.now n }
-    ensures { result ≡ first_of (items_from4 3 25 s.now n k l) }
+    ensures { (first twice : ℕ) → fault_in first twice result ≡ first_of (items_from4 first twice s.now n k l) }
 {
     let known = are_labels_known(s, n, k, l);
     if !known {
-        return 4;
+        return Err(TreeFault::Labels);
     }
     item_from_5(s, n)
 }
 
-// The first of the items 3 to 7 and 25 that applies to the recorded tree, 0 for none; K and L are the table's numbers of labels.
-pub fn tree_item(s: &[u8], k: u8, l: u8) -> u8
-    ensures { result ≡ tree_item 3 25 s.now k l }
+// The first of a tree's items that applies to it: 3 to 7 and 25 for the recorded tree, 8 to 12 and 26 for the found one. K and L are the table's numbers
+// of labels.
+pub fn tree_item(s: &[u8], k: u8, l: u8) -> Result<(), TreeFault>
+    ensures { (first twice : ℕ) → fault_in first twice result ≡ tree_item first twice s.now k l }
 {
     let right = is_sized(s);
     if !right {
-        return 3;
+        return Err(TreeFault::Shape);
     }
     let n = vertex_count(s);
     let marks = is_marked(s, n);
     if !marks {
-        return 3;
+        return Err(TreeFault::Shape);
     }
     item_from_4(s, n, k, l)
-}
-
-// The number that the found tree gets for the recorded one's.
-fn found_number(i: u8) -> u8
-    requires { i ≤ 25 }
-    ensures { result ≡ found_number i }
-{
-    if i == 0 {
-        return 0;
-    }
-    if i == 25 {
-        return 26;
-    }
-    i + 5
-}
-
-// The same for the found tree: 8 to 12 and 26, 0 for none.
-pub fn found_item(s: &[u8], k: u8, l: u8) -> u8
-    ensures { result ≡ tree_item 8 26 s.now k l }
-{
-    found_number(tree_item(s, k, l))
 }

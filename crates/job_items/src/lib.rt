@@ -6,26 +6,29 @@ pub mod work;
 ghost use Rattle.std.specs.Prelude.{◌≡◌, eqb};
 ghost use Rattle.model.specs.Tree.{count};
 ghost use Rattle.model.specs.Jobs.{count_ok, record_ok, same_trees, is_left, start_item};
+ghost use Rattle.model.specs.Refusals.{refusal_in};
 ghost use Rattle.trees.specs.Accepted.{Sound};
 ghost use Rattle.job_items.specs.Items.{early_item};
 
 use formats::bytes::byte_or_zero;
 use formats::inputs::input_item;
-use model::JobRecord;
+use model::{JobRecord, Refusal};
 use plan::counts::{product, subproblem_count};
 
-// The first of the items 1 to 13, 25 and 26 that applies, 0 for none.
-pub fn start_item(table: &[u8], recorded: &[u8], found: &[u8], work: &[i32]) -> u8
-    ensures { result ≡ start_item table.now recorded.now found.now work.now }
+// The first of the items 1 to 13, 25 and 26 that applies.
+pub fn start_item(
+    table: &[u8],
+    recorded: &[u8],
+    found: &[u8],
+    work: &[i32],
+) -> Result<(), Refusal>
+    ensures { refusal_in result ≡ start_item table.now recorded.now found.now work.now }
 {
-    let i = input_item(table, recorded, found);
-    if i != 0 {
-        return i;
-    }
+    input_item(table, recorded, found)?;
     if work.len() < subproblem_count(recorded, found) {
-        return 13;
+        return Err(Refusal::WorkShort);
     }
-    0
+    Ok(())
 }
 
 // A record's count may be a tree's.
@@ -64,23 +67,26 @@ fn same_trees(job: JobRecord, recorded: &[u8], found: &[u8]) -> bool
     n_same & m_same
 }
 
-// The first of the items 1 to 15, 25 and 26 that applies in the order tested, 0 for none.
-pub fn early_item(job: JobRecord, table: &[u8], recorded: &[u8], found: &[u8], work: &[i32]) -> u8
-    ensures { result ≡ early_item job table.now recorded.now found.now work.now }
+// The first of the items 1 to 15, 25 and 26 that applies in the order tested.
+pub fn early_item(
+    job: JobRecord,
+    table: &[u8],
+    recorded: &[u8],
+    found: &[u8],
+    work: &[i32],
+) -> Result<(), Refusal>
+    ensures { refusal_in result ≡ early_item job table.now recorded.now found.now work.now }
 {
-    let i = start_item(table, recorded, found, work);
-    if i != 0 {
-        return i;
-    }
+    start_item(table, recorded, found, work)?;
     let fine = record_ok(job);
     if !fine {
-        return 14;
+        return Err(Refusal::JobRecord);
     }
     let same = same_trees(job, recorded, found);
     if !same {
-        return 15;
+        return Err(Refusal::JobTrees);
     }
-    0
+    Ok(())
 }
 
 // Item 17 applies: the job has subproblems left.

@@ -3,7 +3,7 @@
 use Rattle.std.specs.Prelude.{◌≡◌, ◌≢◌, false, List, ℕ, ◌≤◌, ◌<◌, length, ltb, ℤ}
 use Rattle.std.proofs.Common.{sym, ap, ◌∙◌, ⊎_elim, arith, ne_eqb}
 use Rattle.foundations.specs.Tests.{same?}
-use Rattle.model.specs.declared.WriteAnswer.{WriteAnswer}
+use Rattle.model.specs.Refusals.{Answer}
 use Rattle.model.specs.Refusals.{item}
 use Rattle.model.specs.Order.{subproblems}
 use Rattle.model.specs.Jobs.{start_item}
@@ -30,7 +30,7 @@ pub record CertificateLent (table r f : List ℕ) (w c : ℕ) : Type 0 where
   pub room : (z : List ℕ) → room_item r f z ≡ item 19 (ltb (length z) c)
   pub enough : (work : List ℤ) (z : List ℕ) → w ≤ length work → c ≤ length z → write_item table r f work z ≡ 0
   pub short : (work : List ℤ) (z : List ℕ) → w ≤ length work → length z < c → write_item table r f work z ≡ 19
-  pub answered : {work : List ℤ} {z : List ℕ} {work' : List ℤ} {z' : List ℕ} {a : WriteAnswer} → WriteCall table r f work z work' z' a → write_refusal a ≡ 0 → length_of a ≡ c
+  pub answered : {work : List ℤ} {z : List ℕ} {work' : List ℤ} {z' : List ℕ} {a : Answer ℕ} → WriteCall table r f work z work' z' a → write_refusal a ≡ 0 → length_of a ≡ c
   pub given : {work : List ℤ} {z : List ℕ} {work' : List ℤ} {z' : List ℕ} {k l : ℕ} → Writes table r f work z work' z' k l → k ≡ 0 → l ≡ c
   pub checked : (z : List ℕ) → length z ≢ c → check_of table r f z ≡ 20
 

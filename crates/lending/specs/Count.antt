@@ -1,11 +1,10 @@
 -- `lend_count`: over a job in any slices the counts that its advances give back add up to the count of subproblems; before that something is left, and then
 -- nothing. `lend_calls` says the same of the exported calls. Assumes nothing.
-use Rattle.std.specs.Prelude.{◌≡◌, cond, List, ℕ, ◌+◌, ◌-◌, ◌≤◌, min, length, take, ltb, ℤ}
+use Rattle.std.specs.Prelude.{◌≡◌, cond, List, ℕ, ◌+◌, ◌-◌, ◌≤◌, min, length, take, ltb, ℤ, Ok}
 use Rattle.std.proofs.Common.{◌∙◌}
 use Rattle.std.proofs.Math.Path.{ap}
 use native.Mathlib.Omega.{arith}
 use Rattle.model.specs.declared.JobRecord.{JobRecord}
-use Rattle.model.specs.declared.AdvanceAnswer.TheVariants.{Advanced}
 use Rattle.model.specs.Tree.{count}
 use Rattle.model.specs.Order.{subproblems}
 use Rattle.model.specs.Jobs.{start_item, finish_item, advance_of, advance_count}
@@ -40,7 +39,7 @@ finish_number s done r mapping = cond (ltb done s) 17 (cond (ltb (length mapping
 
 module _ {table r f : List ℕ} {work : List ℤ} (passes : start_item table r f work ≡ 0) {j₀ : JobRecord} where
   counted_is : {sum : ℕ} {j : JobRecord} {left : List ℤ} (m : Sliced table r f j₀ work sum j left) → counted m ≡ min sum (subproblems r f)
-  unfolding counted advance_count
+  unfolding counted
   counted_is begins = omega arith
   counted_is (goes {sum} {j} {left} m b lent e) =
       let c = ap advance_count (lent_slice table r f work passes j₀ m lent e b).1 in
@@ -66,7 +65,7 @@ solved_is (advanced {lent = lent} m same a) =
 -- something.
 pub record CountLent {table r f : List ℕ} {j₀ : JobRecord} {work : List ℤ} {sum : ℕ} {j : JobRecord} {left : List ℤ} (s : ℕ) (m : Sliced table r f j₀ work sum j left) : Type 0 where
   pub sums : counted m ≡ min sum s
-  pub advances : (lent : List ℤ) → Again r f lent left → (b : ℕ) → (advance_of j table r f b lent).answer ≡ Advanced (min b (s - counted m))
+  pub advances : (lent : List ℤ) → Again r f lent left → (b : ℕ) → (advance_of j table r f b lent).answer ≡ Ok (min b (s - counted m))
   pub finishes : (lent : List ℤ) → Again r f lent left → (mapping : List ℕ) → finish_item j table r f lent mapping ≡ finish_number s (counted m) r mapping
 
 -- the same of calls through the C interface
@@ -89,7 +88,7 @@ lend_count {table} {r} {f} {refusal} {s} {w} {c} told given {work} l {j₀} {sum
       sums = is;
       advances = λ lent same b.
           let k : min b (subproblems r f - min sum (subproblems r f)) ≡ min b (s - counted m) = omega arith in
-          (lent_slice table r f work passes j₀ m lent same b).1 ∙ ap Advanced k;
+          (lent_slice table r f work passes j₀ m lent same b).1 ∙ ap Ok k;
       finishes = λ lent same mapping. ends passes m lent same mapping ∙ rw (N, i);
     }
 

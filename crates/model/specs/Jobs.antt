@@ -1,21 +1,13 @@
 -- Jobs: the record, the items 14 to 17, and what start, advance and finish leave and answer, over any memory. Paper 01, "Jobs" and "Why a call is
 -- turned down"; item 16 as paper 02, [2] and [3], have it.
-use Rattle.std.specs.Prelude.{◌≡◌, ◌≢◌, Bool, true, false, not, ◌&&◌, cond, List, [], ◌∷◌, ◌++◌, ℕ, ◌+◌, ◌*◌, ◌-◌, min, get_or, take, drop, eqb, ltb, leb, ℤ, pos, neg_ℤ}
+use Rattle.std.specs.Prelude.{◌≡◌, ◌≢◌, Bool, true, false, not, ◌&&◌, cond, List, [], ◌∷◌, ◌++◌, ℕ, ◌+◌, ◌*◌, ◌-◌, min, get_or, take, drop, eqb, ltb, leb, ℤ, pos, neg_ℤ, ⊤, Ok, Err}
 use Rattle.std.specs.Int.Signed.{le_z}
 use Rattle.foundations.specs.Lists.{every}
 use Rattle.model.specs.declared.JobRecord.{JobRecord}
-use Rattle.model.specs.declared.StartAnswer.{StartAnswer}
-use Rattle.model.specs.declared.StartAnswer.TheVariants.{Started}
-use Rattle.model.specs.declared.StartAnswer.TheVariants as start
-use Rattle.model.specs.declared.AdvanceAnswer.{AdvanceAnswer}
-use Rattle.model.specs.declared.AdvanceAnswer.TheVariants.{Advanced}
-use Rattle.model.specs.declared.AdvanceAnswer.TheVariants as advance
 use Rattle.model.specs.declared.StartOutcome.{StartOutcome}
 use Rattle.model.specs.declared.AdvanceOutcome.{AdvanceOutcome}
-use Rattle.model.specs.declared.MatchAnswer.{MatchAnswer}
-use Rattle.model.specs.declared.MatchAnswer.TheVariants.{Found}
 use Rattle.model.specs.Limits.{weight_limit, ceiling, vertex_limit}
-use Rattle.model.specs.Refusals.{Item, item, first_of}
+use Rattle.model.specs.Refusals.{Item, item, first_of, Answer, refusal_in, with_number}
 use Rattle.model.specs.Weights.{Weight, none, some, is_forbidden}
 use Rattle.model.specs.Tree.{count}
 use Rattle.model.specs.Order.{subproblems, u_at, v_at}
@@ -92,8 +84,8 @@ started j recorded found = record { idle = false; n = count recorded; m = count 
 unfoldable pub start_of : JobRecord → List ℕ → List ℕ → List ℕ → List ℤ → StartOutcome
 start_of j table recorded found work =
     cond (eqb (start_item table recorded found work) 0)
-    (record { job = started j recorded found; answer = Started })
-    (record { job = j; answer = start.Refused (start_item table recorded found work) })
+    (record { job = started j recorded found; answer = Ok tt })
+    (record { job = j; answer = Err (with_number (start_item table recorded found work)) })
 
 -- ---- advance: solves the smaller of the budget (the paper's allowance) and what is left, and adds it to position and total
 
@@ -106,8 +98,8 @@ advanced j c = record { idle = j.idle; n = j.n; m = j.m; position = j.position +
 unfoldable pub advance_of : JobRecord → List ℕ → List ℕ → List ℕ → ℕ → List ℤ → AdvanceOutcome
 advance_of j table recorded found budget work =
     cond (eqb (advance_item j table recorded found work) 0)
-    (record { job = advanced j (slice_count j recorded found budget); answer = Advanced (slice_count j recorded found budget) })
-    (record { job = j; answer = advance.Refused (advance_item j table recorded found work) })
+    (record { job = advanced j (slice_count j recorded found budget); answer = Ok (slice_count j recorded found budget) })
+    (record { job = j; answer = Err (with_number (advance_item j table recorded found work)) })
 
 -- the work numbers after it, from everything as lent: from the position on as many are stored as it counts, each from the numbers before it, and
 -- none above the ceiling (`fill`)
@@ -118,17 +110,15 @@ advance_work j table recorded found budget work =
     work
 
 -- the paper's number for each answer, 0 where the call is not refused; and the count, 0 where it is
-unfoldable pub start_refusal : StartAnswer → ℕ
-start_refusal Started = 0
-start_refusal (start.Refused k) = k
+abbrev pub start_refusal : Answer ⊤ → ℕ
+start_refusal a = refusal_in a
 
-unfoldable pub advance_refusal : AdvanceAnswer → ℕ
-advance_refusal (Advanced c) = 0
-advance_refusal (advance.Refused k) = k
+abbrev pub advance_refusal : Answer ℕ → ℕ
+advance_refusal a = refusal_in a
 
-unfoldable pub advance_count : AdvanceAnswer → ℕ
-advance_count (Advanced c) = c
-advance_count (advance.Refused k) = 0
+abbrev pub advance_count : Answer ℕ → ℕ
+advance_count (Ok c) = c
+advance_count (Err e) = 0
 
 unfoldable pub advance_solves : JobRecord → List ℕ → List ℕ → List ℕ → ℕ → List ℤ → ℕ
 advance_solves j table recorded found budget work = cond (eqb (advance_item j table recorded found work) 0) (slice_count j recorded found budget) 0
@@ -147,16 +137,16 @@ pub record AdvanceCall (j : JobRecord) (table recorded found : List ℕ) (budget
 -- ---- finish: a mapping in the first n bytes and the rest as it was, and its exact weight; over undisturbed memory, that is where the work numbers
 -- are the values, a heaviest one, which weighs the answer. Which mapping is the program's choice.
 
-pub record Finished (table recorded found : List ℕ) (work : List ℤ) (mapping mapping' : List ℕ) (a : MatchAnswer) : Type 0 where
+pub record Finished (table recorded found : List ℕ) (work : List ℤ) (mapping mapping' : List ℕ) (a : Answer ℤ) : Type 0 where
   pub rest : mapping' ≡ take (count recorded) mapping' ++ drop (count recorded) mapping
   pub legal : IsMapping table recorded found (take (count recorded) mapping')
-  pub given : a ≡ Found (weight table recorded found (take (count recorded) mapping'))
+  pub given : a ≡ Ok (weight table recorded found (take (count recorded) mapping'))
   pub number : refusal_of a ≡ 0
   pub weighs : weight_of a ≡ weight table recorded found (take (count recorded) mapping')
   pub heaviest : take (subproblems recorded found) work ≡ values table recorded found → Heaviest table recorded found (take (count recorded) mapping')
-  pub answered : take (subproblems recorded found) work ≡ values table recorded found → a ≡ Found (answer table recorded found)
+  pub answered : take (subproblems recorded found) work ≡ values table recorded found → a ≡ Ok (answer table recorded found)
 
 -- the call: the record and the work numbers are only read
-pub record FinishCall (j : JobRecord) (table recorded found : List ℕ) (work : List ℤ) (mapping mapping' : List ℕ) (a : MatchAnswer) : Type 0 where
+pub record FinishCall (j : JobRecord) (table recorded found : List ℕ) (work : List ℤ) (mapping mapping' : List ℕ) (a : Answer ℤ) : Type 0 where
   pub refused : finish_item j table recorded found work mapping ≢ 0 → Refusal (finish_item j table recorded found work mapping) work mapping work mapping' a
   pub finished : finish_item j table recorded found work mapping ≡ 0 → Finished table recorded found work mapping mapping' a

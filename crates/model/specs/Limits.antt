@@ -1,5 +1,5 @@
 -- The numbers that the papers fix for tables, trees and weights, each named once for the definitions, and what follows from them. The code has the
--- same in src/lib.rt as far as it uses them (`weights` and `sizes` there). The lengths of records stand in `Lengths`, the limit of a job's total in `Jobs`.
+-- same in src/lib.rt as far as it uses them (`weights` and `counts` there). The lengths of records stand in `Lengths`, the limit of a job's total in `Jobs`.
 use Rattle.std.specs.Prelude.{ℕ, ◌+◌, ◌*◌, ◌-◌, ◌/◌, ◌%◌, ℤ, negsuc}
 use Rattle.model.specs.Lengths.{certificate_head_length, partner_length, subproblem_length}
 

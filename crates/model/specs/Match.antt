@@ -1,8 +1,7 @@
 -- The match in one call: what it leaves, and what its answer says. Paper 01, "The mapping", "Jobs" (the work numbers of a one-call match) and
 -- "Why a call is turned down".
-use Rattle.std.specs.Prelude.{◌≡◌, ◌≢◌, List, ◌++◌, ℕ, take, drop, ℤ, pos}
-use Rattle.model.specs.declared.MatchAnswer.{MatchAnswer}
-use Rattle.model.specs.declared.MatchAnswer.TheVariants.{Found, Refused}
+use Rattle.std.specs.Prelude.{◌≡◌, ◌≢◌, List, ◌++◌, ℕ, take, drop, ℤ, pos, Ok, Err}
+use Rattle.model.specs.Refusals.{Answer, refusal_in, with_number}
 use Rattle.model.specs.Tree.{count}
 use Rattle.model.specs.Order.{subproblems}
 use Rattle.model.specs.Calls.{match_item}
@@ -10,35 +9,34 @@ use Rattle.model.specs.Mapping.{Heaviest, weight}
 use Rattle.model.specs.Values.{values, answer}
 
 -- the paper's number for each case of the answer, 0 where the call is not refused; and the weight, 0 where it is
-unfoldable pub refusal_of : MatchAnswer → ℕ
-refusal_of (Found w) = 0
-refusal_of (Refused k) = k
+abbrev pub refusal_of : Answer ℤ → ℕ
+refusal_of a = refusal_in a
 
-unfoldable pub weight_of : MatchAnswer → ℤ
-weight_of (Found w) = w
-weight_of (Refused k) = pos 0
+abbrev pub weight_of : Answer ℤ → ℤ
+weight_of (Ok w) = w
+weight_of (Err e) = pos 0
 
 -- Not refused: all values in order and the rest of the work numbers as it was; a heaviest mapping in the first n bytes and the rest as it
 -- was; its weight. Which heaviest mapping is the program's choice.
-pub record Matched (table recorded found : List ℕ) (work : List ℤ) (mapping : List ℕ) (work' : List ℤ) (mapping' : List ℕ) (a : MatchAnswer) : Type 0 where
+pub record Matched (table recorded found : List ℕ) (work : List ℤ) (mapping : List ℕ) (work' : List ℤ) (mapping' : List ℕ) (a : Answer ℤ) : Type 0 where
   pub values_left : work' ≡ values table recorded found ++ drop (subproblems recorded found) work
   pub rest : mapping' ≡ take (count recorded) mapping' ++ drop (count recorded) mapping
   pub heaviest : Heaviest table recorded found (take (count recorded) mapping')
   pub exact : weight table recorded found (take (count recorded) mapping') ≡ answer table recorded found
-  pub given : a ≡ Found (answer table recorded found)
+  pub given : a ≡ Ok (answer table recorded found)
   pub number : refusal_of a ≡ 0
   pub weighs : weight_of a ≡ answer table recorded found
 
 -- Refused: the number of the first item that applies, and nothing changed.
-pub record Refusal (item : ℕ) (work : List ℤ) (mapping : List ℕ) (work' : List ℤ) (mapping' : List ℕ) (a : MatchAnswer) : Type 0 where
-  pub given : a ≡ Refused item
+pub record Refusal (item : ℕ) (work : List ℤ) (mapping : List ℕ) (work' : List ℤ) (mapping' : List ℕ) (a : Answer ℤ) : Type 0 where
+  pub given : a ≡ Err (with_number item)
   pub number : refusal_of a ≡ item
   pub weighs : weight_of a ≡ pos 0
   pub work_kept : work' ≡ work
   pub mapping_kept : mapping' ≡ mapping
 
 -- the call: from what is lent at entry to what is there at exit, with the answer
-pub record MatchCall (table recorded found : List ℕ) (work : List ℤ) (mapping : List ℕ) (work' : List ℤ) (mapping' : List ℕ) (a : MatchAnswer) : Type 0 where
+pub record MatchCall (table recorded found : List ℕ) (work : List ℤ) (mapping : List ℕ) (work' : List ℤ) (mapping' : List ℕ) (a : Answer ℤ) : Type 0 where
   pub refused : match_item table recorded found work mapping ≢ 0 → Refusal (match_item table recorded found work mapping) work mapping work' mapping' a
   pub matched : match_item table recorded found work mapping ≡ 0 → Matched table recorded found work mapping work' mapping' a
 

@@ -1,8 +1,8 @@
 -- How much to lend: the numbers that a controller asks for before it sets memory aside. Paper 02, [1]. That nothing is solved no definition says: the
 -- code depends on no crate that solves (crates.txt).
-use Rattle.std.specs.Prelude.{◌≡◌, cond, List, ℕ, eqb}
-use Rattle.model.specs.declared.SizesAnswer.{SizesAnswer}
-use Rattle.model.specs.declared.SizesAnswer.TheVariants.{Sizes, Refused}
+use Rattle.std.specs.Prelude.{◌≡◌, cond, List, ℕ, eqb, Ok, Err}
+use Rattle.model.specs.declared.Sizes.{Sizes}
+use Rattle.model.specs.Refusals.{Answer, refusal_in, with_number}
 use Rattle.model.specs.Order.{subproblems}
 use Rattle.model.specs.Calls.{input_item}
 use Rattle.model.specs.Certificate.{certificate_length}
@@ -10,28 +10,27 @@ use Rattle.model.specs.Certificate.{certificate_length}
 -- "From table and layouts alone, give the count of subproblems, the work numbers wanted and the sheet's length": what a job counts from its start to
 -- its end, what item 13 asks for, and what item 19 asks for, each by the definition that the other calls have. "The tests are 1 to 12", and 25 and 26 with
 -- them ([3]: "Both stand in every call that tests 7 or 12").
-unfoldable pub sizes_of : List ℕ → List ℕ → List ℕ → SizesAnswer
+unfoldable pub sizes_of : List ℕ → List ℕ → List ℕ → Answer Sizes
 sizes_of table recorded found =
     cond (eqb (input_item table recorded found) 0)
-    (Sizes (subproblems recorded found) (subproblems recorded found) (certificate_length recorded found))
-    (Refused (input_item table recorded found))
+    (Ok (record { subproblems = subproblems recorded found; work = subproblems recorded found; certificate = certificate_length recorded found }))
+    (Err (with_number (input_item table recorded found)))
 
 -- the paper's number for each case of the answer, 0 where the call is not refused; and the three numbers, 0 where it is
-unfoldable pub sizes_refusal : SizesAnswer → ℕ
-sizes_refusal (Sizes s w c) = 0
-sizes_refusal (Refused k) = k
+abbrev pub sizes_refusal : Answer Sizes → ℕ
+sizes_refusal a = refusal_in a
 
-unfoldable pub sizes_count : SizesAnswer → ℕ
-sizes_count (Sizes s w c) = s
-sizes_count (Refused k) = 0
+abbrev pub sizes_count : Answer Sizes → ℕ
+sizes_count (Ok sizes) = sizes.subproblems
+sizes_count (Err e) = 0
 
-unfoldable pub sizes_work : SizesAnswer → ℕ
-sizes_work (Sizes s w c) = w
-sizes_work (Refused k) = 0
+abbrev pub sizes_work : Answer Sizes → ℕ
+sizes_work (Ok sizes) = sizes.work
+sizes_work (Err e) = 0
 
-unfoldable pub sizes_length : SizesAnswer → ℕ
-sizes_length (Sizes s w c) = c
-sizes_length (Refused k) = 0
+abbrev pub sizes_length : Answer Sizes → ℕ
+sizes_length (Ok sizes) = sizes.certificate
+sizes_length (Err e) = 0
 
 -- what is answered for one of the three: this number where no item applies, 0 where the call is refused
 unfoldable pub unless_refused : List ℕ → List ℕ → List ℕ → ℕ → ℕ
@@ -45,6 +44,6 @@ pub record SizesNumbers (table recorded found : List ℕ) (refusal s w c : ℕ) 
   pub measures : c ≡ unless_refused table recorded found (certificate_length recorded found)
 
 -- the call: it is lent nothing but what it reads
-pub record SizesCall (table recorded found : List ℕ) (a : SizesAnswer) : Type 0 where
+pub record SizesCall (table recorded found : List ℕ) (a : Answer Sizes) : Type 0 where
   pub outcome : a ≡ sizes_of table recorded found
   pub numbers : SizesNumbers table recorded found (sizes_refusal a) (sizes_count a) (sizes_work a) (sizes_length a)

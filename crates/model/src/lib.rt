@@ -1,11 +1,15 @@
 //! The public constants and answers of the library. What the bytes, items and orders of the papers mean is in specs/, as definitions.
 #![tactic(auto)]
 
+pub mod refusal;
+
 ghost use Rattle.std.specs.Prelude.{◌≡◌, pos};
 ghost use Rattle.model.specs.Jobs.{fresh_record, total_limit};
 ghost use Rattle.model.specs.Limits.{weight_limit, forbidden, ceiling, vertex_label_limit, edge_label_limit, directed_from, vertex_limit, degree_limit, no_vertex, prefix_limit, pair_limit, subproblem_limit};
 
-// The numbers that the papers fix, and what follows from them. The definitions have the same in specs/Limits.antt (`weights` and `sizes` below).
+pub use refusal::{Refusal, TreeFault};
+
+// The numbers that the papers fix, and what follows from them. The definitions have the same in specs/Limits.antt (`weights` and `counts` below).
 #[derive(Clone, Copy)]
 pub struct Limits {}
 
@@ -60,7 +64,7 @@ pub type Gains = [u64; Limits::PAIRS];
 
 // A job's state, which belongs to the caller (the paper's job record). n and m are the vertices of the recorded and the found tree, position the
 // number of its subproblems solved so far, total that of the subproblems solved in all its jobs.
-#[derive(Clone, Copy)]
+#[derive(Clone, Copy, PartialEq, Eq)]
 pub struct JobRecord {
     pub idle: bool,
     pub n: u32,
@@ -88,58 +92,26 @@ impl JobRecord {
     }
 }
 
-// The answer of a start.
-#[derive(Clone, Copy)]
-pub enum StartAnswer {
-    Started,
-    Refused(u8),
-}
-
-// The answer of an advance: how many subproblems were solved.
-#[derive(Clone, Copy)]
-pub enum AdvanceAnswer {
-    Advanced(u32),
-    Refused(u8),
-}
-
-// What a start and an advance give where the record is passed by value: the record after the call, and the answer.
+// What a start gives where the record is passed by value: the record after the call, and the answer.
 #[derive(Clone, Copy)]
 pub struct StartOutcome {
     pub job: JobRecord,
-    pub answer: StartAnswer,
+    pub answer: Result<(), Refusal>,
 }
 
+// The same of an advance, whose answer is how many subproblems were solved.
 #[derive(Clone, Copy)]
 pub struct AdvanceOutcome {
     pub job: JobRecord,
-    pub answer: AdvanceAnswer,
+    pub answer: Result<u32, Refusal>,
 }
 
-// The answer of a match, and of a finish: the weight of the mapping, which is below 0 only where something lent to the job was altered, or the number
-// of the item that refused the call.
-#[derive(Clone, Copy)]
-pub enum MatchAnswer {
-    Found(i32),
-    Refused(u8),
-}
-
-// The answer of writing a certificate: its length in bytes, or the number of the item that refused the call.
-#[derive(Clone, Copy)]
-pub enum WriteAnswer {
-    Written(u32),
-    Refused(u8),
-}
-
-// The answer to how much to lend: the count of subproblems, the work numbers wanted and the certificate's length in bytes, or the number of the item
-// that refused the call.
-#[derive(Clone, Copy)]
-pub enum SizesAnswer {
-    Sizes {
-        subproblems: u32,
-        work: u32,
-        certificate: u32,
-    },
-    Refused(u8),
+// How much to lend: the count of subproblems, the work numbers wanted and the certificate's length in bytes.
+#[derive(Clone, Copy, PartialEq, Eq)]
+pub struct Sizes {
+    pub subproblems: u32,
+    pub work: u32,
+    pub certificate: u32,
 }
 
 // Each constant is the number of the definitions: a change of one side alone is refused here.
@@ -150,7 +122,7 @@ fn weights()
     ensures total { JobRecord.TOTAL ≡ total_limit }
 {}
 
-fn sizes()
+fn counts()
     ensures vertex_labels { Limits.VERTEX_LABELS ≡ vertex_label_limit }
     ensures edge_labels { Limits.EDGE_LABELS ≡ edge_label_limit }
     ensures directed { Limits.DIRECTED ≡ directed_from }

@@ -7,13 +7,14 @@ ghost use Rattle.std.specs.Prelude.{◌≤◌, ◌-◌, ◌≡◌, length};
 ghost use Rattle.model.specs.Tree.{count};
 ghost use Rattle.model.specs.Calls.{match_item};
 ghost use Rattle.model.specs.Match.{MatchCall};
+ghost use Rattle.model.specs.Refusals.{refusal_in};
 ghost use Rattle.plan.specs.Plan.{Lent};
 ghost use Rattle.one_call.specs.Call.{Solved};
 
 use crate::top::largest;
 use formats::tree::vertex_count;
 use job_items::start_item;
-use model::{Limits, MatchAnswer};
+use model::{Limits, Refusal};
 use plan::Blocks;
 use plan::counts::subproblem_count;
 use plan::instance::Instance;
@@ -21,18 +22,21 @@ use planning::make;
 use readout::cycle::{clear, read_out};
 use solver::fill::fill;
 
-// The first of the items 1 to 13, 18, 25 and 26 that applies, 0 for none.
-fn match_item(table: &[u8], recorded: &[u8], found: &[u8], work: &[i32], mapping: &[u8]) -> u8
-    ensures { result ≡ match_item table.now recorded.now found.now work.now mapping.now }
+// The first of the items 1 to 13, 18, 25 and 26 that applies.
+fn match_item(
+    table: &[u8],
+    recorded: &[u8],
+    found: &[u8],
+    work: &[i32],
+    mapping: &[u8],
+) -> Result<(), Refusal>
+    ensures { refusal_in result ≡ match_item table.now recorded.now found.now work.now mapping.now }
 {
-    let i = start_item(table, recorded, found, work);
-    if i != 0 {
-        return i;
-    }
+    start_item(table, recorded, found, work)?;
     if mapping.len() < vertex_count(recorded) {
-        return 18;
+        return Err(Refusal::MappingShort);
     }
-    0
+    Ok(())
 }
 
 // Solves every subproblem and reads a heaviest mapping out; the answer is its weight.
@@ -60,13 +64,10 @@ pub fn match_trees(
     found: &[u8],
     work: &mut [i32],
     mapping: &mut [u8],
-) -> MatchAnswer
+) -> Result<i32, Refusal>
     ensures { MatchCall table.now recorded.now found.now work.old mapping.old work.new mapping.new result }
 {
-    let item = match_item(table, recorded, found, work, mapping);
-    if item != 0 {
-        return MatchAnswer::Refused(item);
-    }
+    match_item(table, recorded, found, work, mapping)?;
     let mut plan = [[0u8; Limits::PLACES]; Blocks::ALL];
     make(&mut plan, recorded, found);
     let on = Instance {
@@ -75,6 +76,5 @@ pub fn match_trees(
         found,
         plan: &plan,
     };
-    let w = solve_and_read(&on, work, mapping);
-    MatchAnswer::Found(w)
+    Ok(solve_and_read(&on, work, mapping))
 }

@@ -6,7 +6,7 @@ ghost use Rattle.call_numbers.specs.Exported.{Starts, Advances, Finishes};
 ghost use Rattle.answer_numbers.specs.Memory.{record_of, memory_of};
 
 use answer_numbers::MatchResult;
-use answer_numbers::job_numbers::{AdvanceResult, JobMemory, memory_of};
+use answer_numbers::job_numbers::{AdvanceResult, JobMemory};
 use call_numbers::job_numbers::{advance_numbers, finish_result, start_numbers};
 use model::JobRecord;
 
@@ -16,8 +16,7 @@ use model::JobRecord;
 pub extern "C" fn pensummer_fresh() -> JobMemory
     ensures { result ≡ memory_of fresh_record }
 {
-    let job = JobRecord::fresh();
-    memory_of(job)
+    JobRecord::fresh().into()
 }
 
 // Entry point.

@@ -1,29 +1,32 @@
 -- The answer to how much to lend in each case, and in numbers. Assumes nothing.
-use Rattle.std.specs.Prelude.{◌≡◌, ◌≢◌, List, ℕ}
+use Rattle.std.specs.Prelude.{◌≡◌, ◌≢◌, List, ℕ, Ok}
 use Rattle.std.proofs.Math.Path.{sym}
-use Rattle.std.proofs.Common.{ap, ◌∙◌}
+use Rattle.std.proofs.Common.{◌∙◌}
 use borrow.Author.Tests.{ne_eqb}
-use Rattle.model.specs.declared.SizesAnswer.TheVariants.{Sizes, Refused}
+use Rattle.model.specs.declared.Sizes.{Sizes}
+use Rattle.model.specs.Refusals.{Answer, refusal_in}
+use Rattle.model.proofs.Refusals.{refused_is}
 use Rattle.model.specs.Order.{subproblems}
 use Rattle.model.specs.Calls.{input_item}
 use Rattle.model.specs.Certificate.{certificate_length}
-use Rattle.model.specs.Sizes.{sizes_of, sizes_refusal, sizes_count, sizes_work, sizes_length, unless_refused, SizesNumbers, SizesCall}
+use Rattle.model.specs.Sizes.{sizes_of, unless_refused, SizesNumbers, SizesCall}
 
 module _ (table r f : List ℕ) where
-  pub sizes_given : {s w c : ℕ} → input_item table r f ≡ 0 → s ≡ subproblems r f → w ≡ subproblems r f → c ≡ certificate_length r f → SizesCall table r f (Sizes s w c)
-  unfolding sizes_of sizes_refusal sizes_count sizes_work sizes_length unless_refused
+  pub sizes_given : {s w c : ℕ} → input_item table r f ≡ 0 → s ≡ subproblems r f → w ≡ subproblems r f → c ≡ certificate_length r f → SizesCall table r f (Ok (record { subproblems = s; work = w; certificate = c }))
+  unfolding sizes_of unless_refused
   sizes_given e a b d = record {
     outcome = rw (e, a, b, d);
     numbers = record { number = sym e; counts = rw (e, a); wants = rw (e, b); measures = rw (e, d) };
   }
 
-  pub sizes_refused : {k : ℕ} → k ≡ input_item table r f → k ≢ 0 → SizesCall table r f (Refused k)
-  unfolding sizes_of sizes_refusal sizes_count sizes_work sizes_length unless_refused
-  sizes_refused {k} e n =
-      let off = ne_eqb (input_item table r f) 0 (λ z. n (e ∙ z)) in
+  pub sizes_refused : (a : Answer Sizes) → refusal_in a ≡ input_item table r f → input_item table r f ≢ 0 → SizesCall table r f a
+  unfolding sizes_of unless_refused
+  sizes_refused a e n =
+      let off = ne_eqb (input_item table r f) 0 n in
+      let is = refused_is a e n in
       record {
-        outcome = rw off (ap Refused e);
-        numbers = record { number = e; counts = rw off; wants = rw off; measures = rw off };
+        outcome = rw off is;
+        numbers = record { number = e; counts = rw (off, is); wants = rw (off, is); measures = rw (off, is) };
       }
 
 -- what the numbers of a call that is not refused are

@@ -12,7 +12,7 @@ ghost use Rattle.trees.specs.Accepted.{Sound};
 use formats::inputs::input_item;
 use formats::tree::{degrees, vertex_count};
 use lengths::{certificate_head_length, partner_length, subproblem_length};
-use model::SizesAnswer;
+use model::{Refusal, Sizes};
 use plan::counts::{subproblem_count, width_of};
 
 // The sum of the squares of the degrees of a tree's vertices.
@@ -22,14 +22,10 @@ fn square_sum(found: &[u8]) -> usize
 {
     let m = vertex_count(found);
     let d = degrees(found, m);
-    let mut sum: usize = 0;
-    let mut v: usize = 0;
-    while v < m {
-        let x = d[v] as usize;
-        sum += x * x;
-        v += 1;
-    }
-    sum
+    d[..m]
+        .iter()
+        .map(|x| usize::from(*x) * usize::from(*x))
+        .sum()
 }
 
 // The length of a certificate of the two trees: the head, the partners, the records without their duals, and 4 bytes for each dual.
@@ -51,18 +47,15 @@ fn certificate_length(recorded: &[u8], found: &[u8]) -> usize
 
 // Entry point.
 // How much to lend for the two trees under the table, where none of the items 1 to 12, 25 and 26 applies.
-pub fn sizes(table: &[u8], recorded: &[u8], found: &[u8]) -> SizesAnswer
+pub fn sizes(table: &[u8], recorded: &[u8], found: &[u8]) -> Result<Sizes, Refusal>
     ensures { SizesCall table.now recorded.now found.now result }
 {
-    let item = input_item(table, recorded, found);
-    if item != 0 {
-        return SizesAnswer::Refused(item);
-    }
+    input_item(table, recorded, found)?;
     let count = subproblem_count(recorded, found) as u32;
     let length = certificate_length(recorded, found) as u32;
-    SizesAnswer::Sizes {
+    Ok(Sizes {
         subproblems: count,
         work: count,
         certificate: length,
-    }
+    })
 }

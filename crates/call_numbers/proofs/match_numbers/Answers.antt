@@ -4,5 +4,5 @@ use Rattle.call_numbers.proofs.match_numbers.Goals as goal
 
 pub returns : goal.returns
 returns c =
-    let n = c.numbers.ensures in
+    let n = c.into.ensures in
     exported c.match_trees-a.ensures n.0 n.1

@@ -4,5 +4,5 @@ use Rattle.call_numbers.proofs.certificate_numbers.write_numbers.Goals as goal
 
 pub returns : goal.returns
 returns c =
-    let n = c.write_result.ensures in
+    let n = c.into.ensures in
     writes c.write_certificate-a.ensures n.0 n.1

@@ -6,7 +6,7 @@ pub returns : goal.returns
 returns c =
     let a = c.args in
     let e = c.advance_core-out.ensures in
-    let n = c.advance_result-result.ensures in
+    let n = c.from-result.ensures in
     advances a.job a.table.now a.recorded.now a.found.now a.work.now a.budget
-    c.record_of-held.result c.advance_core-out.result c.advance_result-result.result.refusal c.advance_result-result.result.count c.memory_after-left.result _
-    c.record_of-held.ensures e n.0 n.1 c.memory_after-left.ensures
+    c.from-held.result c.advance_core-out.result c.from-result.result.refusal c.from-result.result.count c.memory_after-left.result _
+    c.from-held.ensures e n.0 n.1 c.memory_after-left.ensures

@@ -4,5 +4,5 @@ use Rattle.call_numbers.proofs.job_numbers.finish_result.Goals as goal
 
 pub returns : goal.returns
 returns c =
-    let n = c.numbers.ensures in
-    finishes _ _ c.record_of-held.ensures c.finish-a.ensures n.0 n.1
+    let n = c.into.ensures in
+    finishes _ _ c.from-held.ensures c.finish-a.ensures n.0 n.1

@@ -6,5 +6,5 @@ pub returns : goal.returns
 returns c =
     let a = c.args in
     starts a.job a.table.now a.recorded.now a.found.now a.work.now
-    c.record_of-held.result c.start_core-out.result c.start_number-refusal.result c.memory_after-left.result
-    c.record_of-held.ensures c.start_core-out.ensures c.start_number-refusal.ensures c.memory_after-left.ensures
+    c.from-held.result c.start_core-out.result c.start_number-refusal.result c.memory_after-left.result
+    c.from-held.ensures c.start_core-out.ensures c.start_number-refusal.ensures c.memory_after-left.ensures

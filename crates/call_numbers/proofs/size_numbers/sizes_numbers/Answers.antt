@@ -4,5 +4,5 @@ use Rattle.call_numbers.proofs.size_numbers.sizes_numbers.Goals as goal
 
 pub returns : goal.returns
 returns c =
-    let n = c.sizes_result.ensures in
+    let n = c.into.ensures in
     sizes_numbers c.sizes-a.ensures n.0 n.1 n.2 n.3

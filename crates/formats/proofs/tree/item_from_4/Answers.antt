@@ -5,7 +5,7 @@ use mathlib.Core.Bool.{not}
 use Rattle.formats.proofs.tree.item_from_4.Goals as goal
 
 pub returns-then-not-known : goal.returns-then-not-known
-returns-then-not-known c = first_no _ _ 4 _ c.are_labels_known-known.ensures (ap not c.if-not-known.true)
+returns-then-not-known c = λ first twice. first_no _ _ _ _ c.are_labels_known-known.ensures (ap not c.if-not-known.true)
 
 pub returns : goal.returns
-returns c = first_yes _ _ 4 c.item_from_5.result _ c.are_labels_known-known.ensures (ap not c.if-not-known.false) c.item_from_5.ensures
+returns c = λ first twice. first_yes _ _ _ _ _ c.are_labels_known-known.ensures (ap not c.if-not-known.false) (c.item_from_5.ensures first twice)

@@ -7,10 +7,10 @@ use mathlib.Core.Bool.{not}
 use Rattle.formats.proofs.tree.item_from_5.Goals as goal
 
 pub returns-then-not-low : goal.returns-then-not-low
-returns-then-not-low c = first_no _ _ 5 _ c.are_ends_low-low.ensures (ap not c.if-not-low.true)
+returns-then-not-low c = λ first twice. first_no _ _ _ _ c.are_ends_low-low.ensures (ap not c.if-not-low.true)
 
 pub item_from_6-requires : goal.item_from_6-requires
 item_from_6-requires c = ends_say _ _ c.requires (passed _ _ c.are_ends_low-low.ensures (ap not c.if-not-low.false))
 
 pub returns : goal.returns
-returns c = first_yes _ _ 5 c.item_from_6.result _ c.are_ends_low-low.ensures (ap not c.if-not-low.false) c.item_from_6.ensures
+returns c = λ first twice. first_yes _ _ _ _ _ c.are_ends_low-low.ensures (ap not c.if-not-low.false) (c.item_from_6.ensures first twice)

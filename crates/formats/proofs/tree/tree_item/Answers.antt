@@ -17,10 +17,10 @@ shaped s a b n e h q g = rw (passed (sized s) a e h) (g ∙ ap (marked s) q)
 
 pub returns-then-not-right : goal.returns-then-not-right
 unfolding tree_item
-returns-then-not-right c =
+returns-then-not-right c = λ first twice.
     let a = c.args in
     let no : sized a.s.now ≡ false = sym c.is_sized-right.ensures ∙ not_says c.is_sized-right.result (ap not c.if-not-right.true) in
-    first_no (sized a.s.now && marked a.s.now (count a.s.now)) false 3 _ (rw no) refl
+    first_no (sized a.s.now && marked a.s.now (count a.s.now)) false first _ (rw no) refl
 
 pub vertex_count-n-requires : goal.vertex_count-n-requires
 vertex_count-n-requires c = sized_says _ (passed _ _ c.is_sized-right.ensures (ap not c.if-not-right.false))
@@ -32,9 +32,9 @@ is_marked-marks-requires c =
 
 pub returns-then-not-marks : goal.returns-then-not-marks
 unfolding tree_item
-returns-then-not-marks c =
+returns-then-not-marks c = λ first twice.
     let a = c.args in
-    first_no _ c.is_marked-marks.result 3 _ (shaped a.s.now c.is_sized-right.result c.is_marked-marks.result c.vertex_count-n.result c.is_sized-right.ensures (ap not c.if-not-right.false) c.vertex_count-n.ensures c.is_marked-marks.ensures) (ap not c.if-not-marks.true)
+    first_no _ c.is_marked-marks.result first _ (shaped a.s.now c.is_sized-right.result c.is_marked-marks.result c.vertex_count-n.result c.is_sized-right.ensures (ap not c.if-not-right.false) c.vertex_count-n.ensures c.is_marked-marks.ensures) (ap not c.if-not-marks.true)
 
 pub item_from_4-requires : goal.item_from_4-requires
 item_from_4-requires c =
@@ -43,7 +43,7 @@ item_from_4-requires c =
 
 pub returns : goal.returns
 unfolding tree_item
-returns c =
+returns c = λ first twice.
     let a = c.args in
-    first_yes _ c.is_marked-marks.result 3 c.item_from_4.result _ (shaped a.s.now c.is_sized-right.result c.is_marked-marks.result c.vertex_count-n.result c.is_sized-right.ensures (ap not c.if-not-right.false) c.vertex_count-n.ensures c.is_marked-marks.ensures) (ap not c.if-not-marks.false)
-    (c.item_from_4.ensures ∙ ap (λ (m : ℕ). first_of (items_from4 3 25 a.s.now m a.k a.l)) c.vertex_count-n.ensures)
+    first_yes _ c.is_marked-marks.result first _ _ (shaped a.s.now c.is_sized-right.result c.is_marked-marks.result c.vertex_count-n.result c.is_sized-right.ensures (ap not c.if-not-right.false) c.vertex_count-n.ensures c.is_marked-marks.ensures) (ap not c.if-not-marks.false)
+    (c.item_from_4.ensures first twice ∙ ap (λ (m : ℕ). first_of (items_from4 first twice a.s.now m a.k a.l)) c.vertex_count-n.ensures)
