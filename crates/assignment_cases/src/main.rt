@@ -14,8 +14,7 @@ ghost use Rattle.assignment_cases.specs.Small.{Small};
 use assignment::weights::{Weights, row_weights, weights};
 use assignment::{Assignment, GAIN_LIMIT, Matrix, SEARCHES, partner};
 use model::{Gains, Limits};
-use std::fmt;
-use std::io;
+use std::{fmt, io};
 
 // How many answers were compared and right, of whole matrices and of those without a column.
 #[derive(Clone, Copy)]
@@ -189,7 +188,9 @@ fn all_but(c: usize) -> Free
 fn rests_right(matrix: &Matrix, t: &Weights) -> u64 {
     let k = matrix.rows;
     let l = matrix.columns;
-    (0..l).filter(|c| t[*c + 1] == exhaustive(matrix.gains, k, l, all_but(*c))).count() as u64
+    (0..l)
+        .filter(|c| t[*c + 1] == exhaustive(matrix.gains, k, l, all_but(*c)))
+        .count() as u64
 }
 
 // The weights of the first row alone are those in t.
