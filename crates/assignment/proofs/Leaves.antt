@@ -79,6 +79,12 @@ nearest_more s v o {j} {b} {d} {b'} {d'} {C} N h eo eb ed = ⊎_elim less more (
 pub first_none : (F : ℕ → ℕ) (s : List ℕ) → First 0 F s s degree_limit far
 first_none F s = record { distances = changed_none _ s; nearest = nearest_none _ _ degree_limit }
 
+pub first_more : {F : ℕ → ℕ} {s₀ s : List ℕ} (v : ℕ) {j b d b' d' : ℕ} → First j F s₀ s b d → j < length s₀ → v ≡ F j → b' ≡ who_of v d j b → d' ≡ less_of v d → First (j + 1) F s₀ (set s j v) b' d'
+first_more {F} {s₀} {s} v {j} P h ev eb ed = record {
+  distances = changed_more P.distances h ev;
+  nearest = nearest_more s v v P.nearest (omega (arith, P.distances.size)) refl eb ed;
+}
+
 pub first_end : {F : ℕ → ℕ} {s₀ s : List ℕ} {j l b d : ℕ} → First j F s₀ s b d → l ≤ j → j ≤ l → First l F s₀ s b d
 first_end {F} {s₀} {s} {j} {l} {b} {d} P p q = subst (λ (x : ℕ). First x F s₀ s b d) (let e : j ≡ l = omega arith in e) P
 
