@@ -35,9 +35,6 @@ greatest_end {j} {l} {b} {d} {f} G p q = subst (λ (x : ℕ). Greatest x f b d) 
 
 -- ---- the two greatest
 
-pub two_none : (f : ℕ → ℕ) (b : ℕ) → GreatestTwo 0 f b 0 0
-two_none f b = record { most = λ x h. absurd (not-suc-le-zero h); found = λ h. absurd (omega arith); next = λ x h. absurd (not-suc-le-zero h); other = λ h. absurd (omega arith) }
-
 -- one that is greater than all before it
 pub two_first : {j b d e : ℕ} {f : ℕ → ℕ} (x : ℕ) → GreatestTwo j f b d e → x ≡ f j → d < x → GreatestTwo (j + 1) f j x d
 two_first {j} {b} {d} {e} {f} x G ex h = record {

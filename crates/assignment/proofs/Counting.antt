@@ -1,5 +1,5 @@
 -- What the counts are after a look, a row and a search. Assumes nothing.
-use mathlib.Core.Path.{◌≡◌, refl, sym, ap, subst, ◌∙◌}
+use mathlib.Core.Path.{◌≡◌, refl, sym, ap, ◌∙◌}
 use mathlib.Core.Logic.{⊎_elim, ◌≢◌}
 use mathlib.Core.List.{List}
 use Prim.Native.Nat.{ℕ, ◌+◌, ◌*◌, ◌≤◌, ◌<◌}
@@ -16,9 +16,6 @@ use Rattle.assignment.specs.Counts.{searches, looked_at, RowCountable, Tried, On
 
 -- ---- a row
 
-pub tried_none : (t : ℕ) (n : List ℕ) → Tried t 0 n n
-tried_none t n = record { size = refl; here = λ x h. absurd (not-suc-le-zero h); past = λ x h. refl; other = λ i x h l. refl; same = refl }
-
 pub tried_more : {t j : ℕ} {n₀ n n' : List ℕ} → Tried t j n₀ n → length n₀ ≡ pair_limit + 1 → t < degree_limit → j < degree_limit → n' ≡ looked_at t j n → Tried t (j + 1) n₀ n'
 tried_more {t} {j} {n₀} {n} {n'} T long ht hj e =
     let low : t * degree_limit + j < length n = omega (arith, T.size) in
@@ -31,13 +28,6 @@ tried_more {t} {j} {n₀} {n} {n'} T long ht hj e =
       other = λ i x h l. get_or-set_other n (t * degree_limit + j) (i * degree_limit + x) (cell n t j + 1) 0 (λ p. h (omega (arith, p))) ∙ T.other i x h l;
       same = get_or-set_other n (t * degree_limit + j) pair_limit (cell n t j + 1) 0 (λ p. omega (arith, p)) ∙ T.same;
     })
-
-pub tried_end : {t j l : ℕ} {n n' : List ℕ} → Tried t j n n' → l ≤ j → j ≤ l → Tried t l n n'
-tried_end {t} {j} {l} {n} {n'} T p q = subst (λ (x : ℕ). Tried t x n n') (let e : j ≡ l = omega arith in e) T
-
--- the next pair of the row can be counted
-pub tried_low : {t j : ℕ} {n n' : List ℕ} → RowCountable t n → Tried t j n n' → j < degree_limit → (length n' ≡ pair_limit + 1) × (cell n' t j < far)
-tried_low {j = j} F T h = (T.size ∙ F.size, let p = T.past j (omega arith) in let q = F.low j h in omega arith)
 
 row_more : {t j : ℕ} (x : ℕ) {n n' : List ℕ} → Tried t j n n' → (cell n t x ≤ cell n' t x) × (cell n' t x ≤ cell n t x + 1)
 row_more {t} {j} x T = ⊎_elim (λ h. let e = T.here x h in (omega arith, omega arith)) (λ h. let e = T.past x h in (omega arith, omega arith)) (less? x j)

@@ -22,7 +22,7 @@ use Rattle.assignment.proofs.Counting.{Tries, tries_start, tries_once, counted, 
 use Rattle.assignment.proofs.Duality.{solved}
 use Rattle.assignment.proofs.Steps.{also_same, also_other}
 use Rattle.assignment.proofs.Leaves.{owners_drop}
-use Rattle.assignment.proofs.Turns.{mark_here, turn_start, room_row, turn_end_row, turn_total_row, b_low, room_column, turn_end_column, turn_total_column, o≢r, o_countable, base_small, columns_small, fewer, turn_grow, tries_grow}
+use Rattle.assignment.proofs.Turns.{mark_here, turn_start, room_row, turn_end_row, turn_total_row, room_column, turn_end_column, turn_total_column, o≢r, o_countable, base_small, columns_small, fewer, turn_grow, tries_grow}
 use Rattle.assignment.proofs.Roots.{pending_put, rooted, sized_out, rest_lengths, rest_bytes, rest_state}
 
 -- ---- the duals that would be written
@@ -109,9 +109,6 @@ module _ {k l r : ℕ} {g : ℕ → ℕ → ℕ} {y z own col dist from : List �
   reached_search C T = search_rows C T (tries_once X.tries)
 
   module _ (near : d < low) where
-    pub reach_low : b < degree_limit
-    reach_low = b_low X.rooted X.turn near
-
     pub reached_column : degree_limit ≤ at own b → Reached k l r g y z d
     reached_column free =
         let s = settled (room_column X.rooted X.turn near) in

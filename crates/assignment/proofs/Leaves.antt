@@ -88,9 +88,6 @@ first_more {F} {s₀} {s} v {j} P h ev eb ed = record {
 pub first_end : {F : ℕ → ℕ} {s₀ s : List ℕ} {j l b d : ℕ} → First j F s₀ s b d → l ≤ j → j ≤ l → First l F s₀ s b d
 first_end {F} {s₀} {s} {j} {l} {b} {d} P p q = subst (λ (x : ℕ). First x F s₀ s b d) (let e : j ≡ l = omega arith in e) P
 
-pub looked_none : (t : ℕ) (F C : ℕ → ℕ) (s f : List ℕ) → Looked 0 t F C s f s f degree_limit far
-looked_none t F C s f = record { distances = changed_none _ s; sources = changed_none _ f; nearest = nearest_none _ _ degree_limit }
-
 pub looked_more : {t : ℕ} {F C : ℕ → ℕ} {s₀ f₀ s f : List ℕ} (w v u o : ℕ) {j b d b' d' : ℕ} → w ≡ F j → Looked j t F C s₀ f₀ s f b d → j < length s₀ → j < length f₀ → v ≡ min (at s j) w → u ≡ who_of w (at s j) t (at f j) → o ≡ open_of (C j) v → b' ≡ who_of o d j b → d' ≡ less_of o d → Looked (j + 1) t F C s₀ f₀ (set s j v) (set f j u) b' d'
 looked_more {t} {F} {C} {s₀} {f₀} {s} {f} w v u o {j} ew P h h' ev eu eo eb ed = record {
   distances = changed_more P.distances h (ev ∙ min_less w (at s j) ∙ ap (λ (x : ℕ). less_of x (at s j)) ew);
@@ -98,42 +95,7 @@ looked_more {t} {F} {C} {s₀} {f₀} {s} {f} w v u o {j} ew P h h' ev eu eo eb 
   nearest = nearest_more s v o P.nearest (omega (arith, P.distances.size)) eo eb ed;
 }
 
-pub looked_end : {t : ℕ} {F C : ℕ → ℕ} {s₀ f₀ s f : List ℕ} {j l b d : ℕ} → Looked j t F C s₀ f₀ s f b d → l ≤ j → j ≤ l → Looked l t F C s₀ f₀ s f b d
-looked_end {t} {F} {C} {s₀} {f₀} {s} {f} {j} {l} {b} {d} P p q = subst (λ (x : ℕ). Looked x t F C s₀ f₀ s f b d) (let e : j ≡ l = omega arith in e) P
-
 -- ---- owners
-
-pub owners_none : (m : List ℕ) → OwnersOf 0 m (replicate degree_limit degree_limit)
-owners_none m = record { has = λ c h lt. absurd (omega (arith, get_or-replicate {A = ℕ} degree_limit c degree_limit 0 h)); none = λ c h le x lt. absurd (not-suc-le-zero lt); size = refl }
-
--- row i has column c
-pub owners_yes : {i c v : ℕ} {m own : List ℕ} → OwnersOf i m own → i < degree_limit → c < degree_limit → at m i ≡ c → v ≡ i → OwnersOf (i + 1) m (set own c v)
-owners_yes {i} {c} {v} {m} {own} P hi hc e ev = record {
-  has = λ x hx lt. ⊎_elim
-      (λ q. let w : at (set own c v) x ≡ i = ap (at (set own c v)) q ∙ here ∙ ev in subst (λ (o : ℕ). (o < i + 1) × (at m o ≡ x)) (sym w) (omega arith, e ∙ sym q))
-      (λ n. let w : at (set own c v) x ≡ at own x = get_or-set_other own c x v 0 n in let o = P.has x hx (omega arith) in subst (λ (o : ℕ). (o < i + 1) × (at m o ≡ x)) (sym w) (omega (arith, o.0), o.1))
-      (same? x c);
-  none = λ x hx le y lt. ⊎_elim
-      (λ q. absurd (omega (arith, ap (at (set own c v)) q, here)))
-      (λ n. let w : at (set own c v) x ≡ at own x = get_or-set_other own c x v 0 n in
-      below_more (λ (y : ℕ). at m y ≢ x) i (P.none x hx (omega arith)) (λ q. n (sym q ∙ e)) y lt)
-      (same? x c);
-  size = simp length-set P.size;
-}
-  where
-    here : at (set own c v) c ≡ v
-    here = get_or-set_same own c v 0 (omega (arith, P.size))
-
--- row i has no column
-pub owners_no : {i : ℕ} {m own : List ℕ} → OwnersOf i m own → degree_limit ≤ at m i → OwnersOf (i + 1) m own
-owners_no {i} {m} {own} P le = record {
-  has = λ x hx lt. let o = P.has x hx lt in (omega (arith, o.0), o.1);
-  none = λ x hx h. below_more (λ (y : ℕ). at m y ≢ x) i (P.none x hx h) (λ q. omega arith);
-  size = P.size;
-}
-
-pub owners_end : {i k : ℕ} {m own : List ℕ} → OwnersOf i m own → k ≤ i → i ≤ k → OwnersOf k m own
-owners_end {i} {k} {m} {own} P p q = subst (λ (x : ℕ). OwnersOf x m own) (let e : i ≡ k = omega arith in e) P
 
 -- no row has a column
 pub owners_free : (k : ℕ) → k ≤ degree_limit → OwnersOf k (replicate degree_limit degree_limit) (replicate degree_limit degree_limit)
@@ -145,34 +107,6 @@ owners_free k few = record {
   where
     free : (x : ℕ) → x < degree_limit → at (replicate degree_limit degree_limit) x ≡ degree_limit
     free x h = get_or-replicate {A = ℕ} degree_limit x degree_limit 0 h
-
--- row r, which had none, gets column b, which had none
-pub owners_put : {k r b v w : ℕ} {m own : List ℕ} → OwnersOf k m own → k ≤ degree_limit → length m ≡ degree_limit → r < k → degree_limit ≤ at m r → b < degree_limit → degree_limit ≤ at own b → v ≡ b → w ≡ r → OwnersOf k (set m r v) (set own b w)
-owners_put {k} {r} {b} {v} {w} {m} {own} P few long hr none hb bare ev ew = record {
-  has = λ x hx lt. ⊎_elim
-      (λ q. let o : at (set own b w) x ≡ r = ap (at (set own b w)) q ∙ here ∙ ew in subst (λ (y : ℕ). (y < k) × (at (set m r v) y ≡ x)) (sym o) (hr, mine ∙ ev ∙ sym q))
-      (λ n.
-      let o : at (set own b w) x ≡ at own x = get_or-set_other own b x w 0 n in
-      let h = P.has x hx (omega arith) in
-      subst (λ (y : ℕ). (y < k) × (at (set m r v) y ≡ x)) (sym o) (h.0, get_or-set_other m r (at own x) v 0 (λ q. omega (arith, ap (at m) q, h.1)) ∙ h.1))
-      (same? x b);
-  none = λ x hx le y hy. ⊎_elim
-      (λ q. absurd (omega (arith, ap (at (set own b w)) q, here)))
-      (λ n.
-      let o : at (set own b w) x ≡ at own x = get_or-set_other own b x w 0 n in
-      ⊎_elim
-      (λ q p. n (sym p ∙ ap (at (set m r v)) q ∙ mine ∙ ev))
-      (λ q p. P.none x hx (omega arith) y hy (sym (get_or-set_other m r y v 0 q) ∙ p))
-      (same? y r))
-      (same? x b);
-  size = length-set own b w ∙ P.size;
-}
-  where
-    here : at (set own b w) b ≡ w
-    here = get_or-set_same own b w 0 (omega (arith, P.size))
-
-    mine : at (set m r v) r ≡ v
-    mine = get_or-set_same m r v 0 (omega arith)
 
 -- row r gives its column b up
 pub owners_drop : {k r b : ℕ} {m own : List ℕ} → OwnersOf k m own → k ≤ degree_limit → length m ≡ degree_limit → r < k → b < degree_limit → at m r ≡ b → ((i : ℕ) → i < k → at m i ≡ b → i ≡ r) → OwnersOf k (set m r degree_limit) (set own b degree_limit)

@@ -31,10 +31,6 @@ pending_put {k} {l} {r} {g} y z m v p = record {
   pending = p.pending;
 }
 
--- and it has no column
-pub pending_none : {k l r : ℕ} {g : ℕ → ℕ → ℕ} {y z : ℕ → ℕ} {m : List ℕ} → Bytes l m → r < k → k ≤ degree_limit → Pending k l r g y z (at m) → degree_limit ≤ at m r
-pending_none {k} {l} {r} B h few p = ⊎_elim (λ lt. absurd (omega (arith, p.state.pending r h p.pending))) (λ e. omega arith) (B.range r (omega arith))
-
 -- ---- a search's start
 
 pub rooted : {k l r : ℕ} {g : ℕ → ℕ → ℕ} {y z m own dist₀ dist : List ℕ} {b d : ℕ} → Sized k l g → r < k → Lengths y z m → Bytes l m → Pending k l r g (at y) (at z) (at m) → length dist₀ ≡ degree_limit → OwnersOf k m own → First l (λ x. gain_limit + at z x - g r x) dist₀ dist b d → Rooted k l r g (set y r gain_limit) z m own dist b d

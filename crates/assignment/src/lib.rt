@@ -23,7 +23,8 @@ use model::{Gains, Limits, Row, WideRow};
 // No gain is greater: 2 ^ 48.
 pub const GAIN_LIMIT: u64 = 281474976710656;
 
-// What stands for the column of a row that has none, and for the row of a column that has none. (The definitions have such rows of bytes, as `OwnersOf`.)
+// What stands for the column of a row that has none, and for the row of a column that has none: the rows of bytes are the lists of the definitions
+// (`Bytes`, `OwnersOf`), where a number from degree_limit on is none.
 pub const FREE: u8 = Limits::DEGREE;
 
 // How often each pair of a row and a column was looked at, at row * PLACES + column, and at SEARCHES how many path searches
@@ -79,7 +80,8 @@ struct Rows {
     alternative: [Row; Limits::PLACES],
 }
 
-// The least of some values and the place that has it. Of none: `FAR`, which is where the minimum begins, at `PLACES`. (An Option would add a case to each comparison.)
+// The least of some values and the place that has it. Of none: `FAR`, where the minimum begins, at `PLACES`, as the definition `Nearest` has it. (An
+// Option would add a case to each comparison.)
 #[derive(Clone, Copy)]
 pub(crate) struct Least {
     pub(crate) place: usize,

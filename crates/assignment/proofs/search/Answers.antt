@@ -3,6 +3,7 @@ use mathlib.Core.Path.{refl}
 use Rattle.assignment.specs.Matching.{gain_limit}
 use Rattle.assignment.proofs.Duality.{column_limit}
 use Rattle.assignment.proofs.Roots.{rooted, end_covered, end_free, end_explored, sized_out}
+use Rattle.assignment.proofs.Counting.{search_rows}
 use Rattle.assignment.proofs.search.Goals as goal
 
 pub look_first-near-requires-clause-dist_len : goal.look_first-near-requires-clause-dist_len
@@ -19,3 +20,6 @@ explore-requires-clause-rooted c = (rooted (sized_out _ c.args.problem.now.matri
 
 pub returns-clause-ended : goal.returns-clause-ended
 returns-clause-ended c = end_explored _ _ _ gain_limit c.explore.ensures.0
+
+pub returns-clause-search : goal.returns-clause-search
+returns-clause-search c = search_rows c.requires.countable c.look_first-near.ensures.1 c.explore.ensures.1
