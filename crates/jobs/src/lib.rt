@@ -7,18 +7,17 @@ mod slices;
 
 ghost use Rattle.std.specs.Prelude.{◌≡◌};
 ghost use Rattle.model.specs.Jobs.{StartCall, AdvanceCall, advance_of, advance_work, finish_item, FinishCall};
-ghost use Rattle.plan.specs.Plan.{Ready};
 ghost use Rattle.job_items.specs.Items.{early_item};
 
 use crate::delivery::deliver;
 use crate::slices::{begun, moved, slice_of};
-use formats::tree::vertex_count;
 use job_items::work::work_ok;
 use job_items::{early_item, is_left, start_item};
 use model::{
     AdvanceAnswer, AdvanceOutcome, JobRecord, Limits, MatchAnswer, StartAnswer, StartOutcome,
 };
-use plan::{Blocks, Plan};
+use plan::Blocks;
+use plan::instance::Instance;
 use planning::make;
 use solver::fill::fill;
 
@@ -47,38 +46,21 @@ pub fn start_core(
 }
 
 // An advance over the plan; of its items only 16 is not tested yet.
-fn advance_ready(
-    job: JobRecord,
-    table: &[u8],
-    recorded: &[u8],
-    found: &[u8],
-    plan: &Plan,
-    budget: u32,
-    work: &mut [i32],
-) -> AdvanceOutcome
-    requires ready { Ready table.now recorded.now found.now plan.now }
-    requires work_value { early_item job table.now recorded.now found.now work.old ≡ 0 }
-    ensures { (result ≡ advance_of job table.now recorded.now found.now budget work.old)
-        × (work.new ≡ advance_work job table.now recorded.now found.now budget work.old) }
+fn advance_ready(on: &Instance, job: JobRecord, budget: u32, work: &mut [i32]) -> AdvanceOutcome
+    requires { early_item job on.now.table.now on.now.recorded.now on.now.found.now work.old ≡ 0 }
+    ensures { (result ≡ advance_of job on.now.table.now on.now.recorded.now on.now.found.now budget work.old)
+        × (work.new ≡ advance_work job on.now.table.now on.now.recorded.now on.now.found.now budget work.old) }
 {
     let position = job.position;
-    let fine = work_ok(table, recorded, found, plan, work, position as usize);
+    let fine = work_ok(on, work, position as usize);
     if !fine {
         return AdvanceOutcome {
             job,
             answer: AdvanceAnswer::Refused(16),
         };
     }
-    let count = slice_of(recorded, found, position, budget);
-    fill(
-        table,
-        recorded,
-        found,
-        plan,
-        work,
-        position as usize,
-        count as usize,
-    );
+    let count = slice_of(on, position, budget);
+    fill(on, work, position as usize, count as usize);
     AdvanceOutcome {
         job: moved(job, count),
         answer: AdvanceAnswer::Advanced(count),
@@ -106,56 +88,44 @@ pub fn advance_core(
     }
     let mut plan = [[0u8; Limits::PLACES]; Blocks::ALL];
     make(&mut plan, recorded, found);
-    advance_ready(job, table, recorded, found, &plan, budget, work)
+    let on = Instance {
+        table,
+        recorded,
+        found,
+        plan: &plan,
+    };
+    advance_ready(&on, job, budget, work)
 }
 
 // The first of a finish's items 16 to 18 that applies, 0 for none, where none before applies.
-fn late_item(
-    job: JobRecord,
-    table: &[u8],
-    recorded: &[u8],
-    found: &[u8],
-    plan: &Plan,
-    work: &[i32],
-    mapping: &[u8],
-) -> u8
-    requires ready { Ready table.now recorded.now found.now plan.now }
-    requires work_value { early_item job table.now recorded.now found.now work.now ≡ 0 }
-    ensures { result ≡ finish_item job table.now recorded.now found.now work.now mapping.now }
+fn late_item(on: &Instance, job: JobRecord, work: &[i32], mapping: &[u8]) -> u8
+    requires { early_item job on.now.table.now on.now.recorded.now on.now.found.now work.now ≡ 0 }
+    ensures { result ≡ finish_item job on.now.table.now on.now.recorded.now on.now.found.now work.now mapping.now }
 {
-    let fine = work_ok(table, recorded, found, plan, work, job.position as usize);
+    let fine = work_ok(on, work, job.position as usize);
     if !fine {
         return 16;
     }
-    let left = is_left(job, recorded, found);
+    let left = is_left(job, on.recorded, on.found);
     if left {
         return 17;
     }
-    if mapping.len() < vertex_count(recorded) {
+    if mapping.len() < on.n() {
         return 18;
     }
     0
 }
 
 // A finish over the plan; of its items only 16 to 18 are not tested yet.
-fn finish_ready(
-    job: JobRecord,
-    table: &[u8],
-    recorded: &[u8],
-    found: &[u8],
-    plan: &Plan,
-    work: &[i32],
-    mapping: &mut [u8],
-) -> MatchAnswer
-    requires ready { Ready table.now recorded.now found.now plan.now }
-    requires work_value { early_item job table.now recorded.now found.now work.now ≡ 0 }
-    ensures { FinishCall job table.now recorded.now found.now work.now mapping.old mapping.new result }
+fn finish_ready(on: &Instance, job: JobRecord, work: &[i32], mapping: &mut [u8]) -> MatchAnswer
+    requires { early_item job on.now.table.now on.now.recorded.now on.now.found.now work.now ≡ 0 }
+    ensures { FinishCall job on.now.table.now on.now.recorded.now on.now.found.now work.now mapping.old mapping.new result }
 {
-    let item = late_item(job, table, recorded, found, plan, work, mapping);
+    let item = late_item(on, job, work, mapping);
     if item != 0 {
         return MatchAnswer::Refused(item);
     }
-    let w = deliver(table, recorded, found, plan, work, mapping);
+    let w = deliver(on, work, mapping);
     MatchAnswer::Found(w)
 }
 
@@ -178,5 +148,11 @@ pub fn finish(
     }
     let mut plan = [[0u8; Limits::PLACES]; Blocks::ALL];
     make(&mut plan, recorded, found);
-    finish_ready(job, table, recorded, found, &plan, work, mapping)
+    let on = Instance {
+        table,
+        recorded,
+        found,
+        plan: &plan,
+    };
+    finish_ready(&on, job, work, mapping)
 }

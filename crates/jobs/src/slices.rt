@@ -3,30 +3,27 @@ ghost use Rattle.std.specs.Prelude.{◌+◌, ◌-◌, ◌≤◌, min, ◌≡◌}
 ghost use Rattle.model.specs.Limits.{subproblem_limit};
 ghost use Rattle.model.specs.Order.{subproblems};
 ghost use Rattle.model.specs.Jobs.{started, advanced, total_limit};
-ghost use Rattle.trees.specs.Accepted.{Sound};
 
 use formats::bytes::byte_or_zero;
-use integers::lesser;
 use model::JobRecord;
 use plan::counts::subproblem_count;
+use plan::instance::Instance;
 
 // The smaller of the budget and what is left.
-pub(crate) fn slice_of(recorded: &[u8], found: &[u8], position: u32, budget: u32) -> u32
-    requires sound { Sound recorded.now }
-    requires sound_2 { Sound found.now }
-    requires position_bound { position ≤ subproblems recorded.now found.now }
-    ensures { (result ≡ min budget (subproblems recorded.now found.now - position)) × (position + result ≤ subproblem_limit) }
+pub(crate) fn slice_of(on: &Instance, position: u32, budget: u32) -> u32
+    requires { position ≤ subproblems on.now.recorded.now on.now.found.now }
+    ensures { (result ≡ min budget (subproblems on.now.recorded.now on.now.found.now - position)) × (position + result ≤ subproblem_limit) }
 {
-    let all = subproblem_count(recorded, found);
-    lesser(budget as usize, all - (position as usize)) as u32
+    let all = subproblem_count(on.recorded, on.found) as u32;
+    budget.min(all - position)
 }
 
 // The record of a job that begins.
 pub(crate) fn begun(job: JobRecord, recorded: &[u8], found: &[u8]) -> JobRecord
     ensures { result ≡ started job recorded.now found.now }
 {
-    let n = byte_or_zero(recorded, 2) as u32;
-    let m = byte_or_zero(found, 2) as u32;
+    let n = u32::from(byte_or_zero(recorded, 2));
+    let m = u32::from(byte_or_zero(found, 2));
     JobRecord {
         idle: false,
         n,

@@ -15,17 +15,20 @@ returns-then-item-ne0 c =
     let q = e ∙ sym (finish_early a.table.now a.recorded.now a.found.now a.work.now a.job a.mapping.now (λ z. c.if-item-ne0.true (e ∙ z))) in
     record { refused = λ n. record { given = ap Refused q; number = refused_number (ap Refused q); weighs = refused_weight (ap Refused q); work_kept = refl; mapping_kept = refl }; finished = λ z. absurd (c.if-item-ne0.true (q ∙ z)) }
 
-pub make-requires : goal.make-requires
-make-requires c =
+pub make-requires-clause-sound : goal.make-requires-clause-sound
+make-requires-clause-sound c =
     let zero : let a = c.args in early_item a.job a.table.now a.recorded.now a.found.now a.work.now ≡ 0 = let z : c.early_item-item.result ≡ 0 = search rules in sym c.early_item-item.ensures ∙ z in
     let passing : let a = c.args in input_item a.table.now a.recorded.now a.found.now ≡ 0 = let a = c.args in (early_passed a.table.now a.recorded.now a.found.now a.work.now a.job (zero)).0 in
-    record { plan_len = refl; sound = (input_sound _ _ _ (passing)).0; sound_2 = (input_sound _ _ _ (passing)).1 }
+    (input_sound _ _ _ passing).0
 
-pub finish_ready-requires : goal.finish_ready-requires
-finish_ready-requires c =
+pub make-requires-clause-sound_2 : goal.make-requires-clause-sound_2
+make-requires-clause-sound_2 c =
     let zero : let a = c.args in early_item a.job a.table.now a.recorded.now a.found.now a.work.now ≡ 0 = let z : c.early_item-item.result ≡ 0 = search rules in sym c.early_item-item.ensures ∙ z in
     let passing : let a = c.args in input_item a.table.now a.recorded.now a.found.now ≡ 0 = let a = c.args in (early_passed a.table.now a.recorded.now a.found.now a.work.now a.job (zero)).0 in
-    record { ready = record { passes = passing; planned = c.make.ensures }; work_value = zero }
+    (input_sound _ _ _ passing).1
 
-pub returns : goal.returns
-returns c = c.finish_ready.ensures
+pub invariant_of-on : goal.invariant_of-on
+invariant_of-on c =
+    let zero : let a = c.args in early_item a.job a.table.now a.recorded.now a.found.now a.work.now ≡ 0 = let z : c.early_item-item.result ≡ 0 = search rules in sym c.early_item-item.ensures ∙ z in
+    let passing : let a = c.args in input_item a.table.now a.recorded.now a.found.now ≡ 0 = let a = c.args in (early_passed a.table.now a.recorded.now a.found.now a.work.now a.job (zero)).0 in
+    record { ready = record { passes = passing; planned = c.make.ensures } }
