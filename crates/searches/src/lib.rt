@@ -3,12 +3,14 @@
 
 pub mod pairs;
 
+ghost use Rattle.model.specs.Refusals.{refusal_in};
 ghost use Rattle.searches.specs.Calls.{CountCall, TallyCall};
 
 use crate::pairs::{Tally, none, tally_all};
 use assignment::Counts;
 use job_items::start_item;
-use model::Limits;
+use model::refusal::refusal_in;
+use model::{Limits, Refusal};
 use plan::Blocks;
 use plan::counts::subproblem_count;
 use plan::instance::Instance;
@@ -17,21 +19,18 @@ use solver::fill::fill_counted;
 use solver::subproblem::Scratch;
 
 // Entry point.
-// Fills all work numbers and sets the counts to the searches that this takes and how often these look at each pair of places. The answer is 0, or the
-// number of the first item of a start that applies; then nothing is written.
+// Fills all work numbers and sets the counts to the searches that this takes and how often these look at each pair of places. Where an item of a start
+// applies nothing is written.
 pub fn count_searches(
     table: &[u8],
     recorded: &[u8],
     found: &[u8],
     work: &mut [i32],
     counts: &mut Counts,
-) -> u8
-    ensures { CountCall table.now recorded.now found.now work.old counts.old work.new counts.new result }
+) -> Result<(), Refusal>
+    ensures { CountCall table.now recorded.now found.now work.old counts.old work.new counts.new (refusal_in result) }
 {
-    let item = start_item(table, recorded, found, work);
-    if item != 0 {
-        return item;
-    }
+    start_item(table, recorded, found, work)?;
     let mut plan = [[0u8; Limits::PLACES]; Blocks::ALL];
     make(&mut plan, recorded, found);
     let on = Instance {
@@ -44,7 +43,7 @@ pub fn count_searches(
     let mut scratch = Scratch::new();
     fill_counted(&mut scratch, &on, work, 0, all);
     *counts = scratch.counts;
-    0
+    Ok(())
 }
 
 // Entry point.
@@ -52,7 +51,8 @@ pub fn count_searches(
 pub fn tally_searches(table: &[u8], recorded: &[u8], found: &[u8], work: &mut [i32]) -> Tally
     ensures { TallyCall table.now recorded.now found.now work.old work.new result }
 {
-    let item = start_item(table, recorded, found, work);
+    // The number that C has in a tally.
+    let item = refusal_in(start_item(table, recorded, found, work));
     if item != 0 {
         return none(item);
     }

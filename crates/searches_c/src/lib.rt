@@ -4,10 +4,11 @@
 ghost use Rattle.searches.specs.Calls.{CountCall, TallyCall};
 
 use assignment::Counts;
+use model::refusal::refusal_in;
 use searches::pairs::Tally;
 
 // Entry point.
-// `searches::count_searches`.
+// `searches::count_searches`: the item that refused the call, 0 for none.
 #[unsafe(no_mangle)]
 pub extern "C" fn count_searches(
     table: &[u8],
@@ -18,7 +19,7 @@ pub extern "C" fn count_searches(
 ) -> u8
     ensures { CountCall table.now recorded.now found.now work.old counts.old work.new counts.new result }
 {
-    searches::count_searches(table, recorded, found, work, counts)
+    refusal_in(searches::count_searches(table, recorded, found, work, counts))
 }
 
 // Entry point.

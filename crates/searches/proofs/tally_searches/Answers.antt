@@ -6,21 +6,21 @@ use Rattle.searches.specs.Steps.{zero_item, sound_trees, lent_work, ready_plan}
 use Rattle.searches.proofs.tally_searches.Goals as goal
 
 pub make-requires-clause-sound : goal.make-requires-clause-sound
-make-requires-clause-sound c = let none : c.start_item-item.result ≡ 0 = search rules in (sound_trees _ _ _ _ c.start_item-item.ensures none).0
+make-requires-clause-sound c = let none : c.refusal_in-item.result ≡ 0 = search rules in (sound_trees _ _ _ _ (c.refusal_in-item.ensures ∙ c.start_item.ensures) none).0
 
 pub make-requires-clause-sound_2 : goal.make-requires-clause-sound_2
-make-requires-clause-sound_2 c = let none : c.start_item-item.result ≡ 0 = search rules in (sound_trees _ _ _ _ c.start_item-item.ensures none).1
+make-requires-clause-sound_2 c = let none : c.refusal_in-item.result ≡ 0 = search rules in (sound_trees _ _ _ _ (c.refusal_in-item.ensures ∙ c.start_item.ensures) none).1
 
 pub invariant_of-on : goal.invariant_of-on
-invariant_of-on c = let none : c.start_item-item.result ≡ 0 = search rules in record { ready = ready_plan _ _ _ _ c.start_item-item.ensures none c.make.ensures }
+invariant_of-on c = let none : c.refusal_in-item.result ≡ 0 = search rules in record { ready = ready_plan _ _ _ _ (c.refusal_in-item.ensures ∙ c.start_item.ensures) none c.make.ensures }
 
 pub tally_all-requires : goal.tally_all-requires
-tally_all-requires c = let none : c.start_item-item.result ≡ 0 = search rules in lent_work _ _ _ _ c.start_item-item.ensures none
+tally_all-requires c = let none : c.refusal_in-item.result ≡ 0 = search rules in lent_work _ _ _ _ (c.refusal_in-item.ensures ∙ c.start_item.ensures) none
 
 pub returns : goal.returns
 returns c =
-    let none : c.start_item-item.result ≡ 0 = search rules in
-    let e = c.start_item-item.ensures in
+    let none : c.refusal_in-item.result ≡ 0 = search rules in
+    let e = (c.refusal_in-item.ensures ∙ c.start_item.ensures) in
     let t = c.tally_all.ensures.1 in
     record {
       number = t.passed ∙ sym (zero_item _ _ _ _ e none);
