@@ -60,7 +60,7 @@ pub type Gains = [u64; Limits::PAIRS];
 
 // A job's state, which belongs to the caller (the paper's job record). n and m are the vertices of the recorded and the found tree, position the
 // number of its subproblems solved so far, total that of the subproblems solved in all its jobs.
-#[derive(Clone, Copy)]
+#[derive(Clone, Copy, PartialEq, Eq)]
 pub struct JobRecord {
     pub idle: bool,
     pub n: u32,
