@@ -1,2 +1,3 @@
 -- Laws of the match program.
 pub mod Room
+pub mod Show

@@ -1,21 +1,21 @@
 //! Where the table, the recorded tree and the found tree stand in the match program's input.
-ghost use Rattle.std.specs.Prelude.{◌≡◌};
+ghost use Rattle.std.specs.Prelude.{◌≡◌, ◌+◌, length};
 ghost use Rattle.model.specs.Table.{table_length};
-ghost use Rattle.model.specs.Input.{length_known, tree_length};
+ghost use Rattle.model.specs.Input.{table_part, length_known, tree_length, recorded_part, found_part};
 ghost use Rattle.formats.specs.Split.{SplitAt};
 
 use crate::bytes::byte_or_zero;
 use crate::marks::is_mark;
 use crate::places::tree_size;
 use crate::table::table_size;
-use integers::lesser;
 use lengths::tree_head_length;
 
-// Where the recorded and the found tree begin.
+// The three parts of an input.
 #[derive(Clone, Copy)]
-pub struct Parts {
-    pub recorded: usize,
-    pub found: usize,
+pub struct Parts<'a> {
+    pub table: &'a [u8],
+    pub recorded: &'a [u8],
+    pub found: &'a [u8],
 }
 
 fn table_length(input: &[u8]) -> usize
@@ -47,12 +47,20 @@ fn tree_length(s: &[u8]) -> usize
     tree_size(s, s[2])
 }
 
-// The parts of the input, whatever it is.
-pub fn split(input: &[u8]) -> Parts
-    ensures { SplitAt input.now result.recorded result.found }
+// The parts of the input, whatever it is: those that the model names, one behind the other.
+pub fn split(input: &[u8]) -> Parts<'_>
+    ensures table { result.table.now ≡ table_part input.now }
+    ensures recorded { result.recorded.now ≡ recorded_part input.now }
+    ensures found { result.found.now ≡ found_part input.now }
+    ensures at { SplitAt input.now (length result.table.now) (length result.table.now + length result.recorded.now) }
 {
-    let recorded = lesser(table_length(input), input.len());
-    let rest = &input[recorded..];
-    let found = recorded + lesser(tree_length(rest), rest.len());
-    Parts { recorded, found }
+    let table_end = table_length(input).min(input.len());
+    let (table, trees) = input.split_at(table_end);
+    let recorded_end = tree_length(trees).min(trees.len());
+    let (recorded, found) = trees.split_at(recorded_end);
+    Parts {
+        table,
+        recorded,
+        found,
+    }
 }

@@ -12,10 +12,10 @@ use std::process::ExitCode;
 // Says that standard output takes nothing more, and why: in words, without the system's number.
 fn say_unwritten(rt: &(impl Eprint + Alloc), e: &io::Error) -> io::Result<()> {
     let text = format!(in rt.alloc(); "{e}")?;
-    match text.split_once(" (os error ") {
-        Some((reason, _)) => eprintln!(rt; "matcher: standard output: {reason}"),
-        None => eprintln!(rt; "matcher: standard output: {text}"),
-    }
+    let reason = text
+        .split_once(" (os error ")
+        .map_or(text.as_str(), |(reason, _)| reason);
+    eprintln!(rt; "matcher: standard output: {reason}")
 }
 
 fn main(rt: HostRuntime) -> io::Result<ExitCode> {

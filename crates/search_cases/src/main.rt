@@ -7,98 +7,79 @@
 //! random trees, hubs in a row and balanced hubs, with random labels and weights; balanced hubs of one label; a found star of degree 9.
 #![tactic(auto)]
 
-ghost use Rattle.std.specs.Prelude.{◌<◌, ◌≤◌, length, IfOk};
+ghost use Rattle.std.specs.Prelude.{length};
+ghost use Rattle.std.specs.Iterator.{at_most};
 
 use assignment::{Counts, SEARCHES};
 use formats::bytes::byte_or_zero;
-use formats::split::split;
-use integers::lesser;
+use formats::split::{Parts, split};
 use model::Limits;
 use reading::read_full;
 use searches::pairs::Tally;
 use searches::{count_searches, tally_searches};
 use std::io;
-use std::num::wrapping_add_u64;
 
-fn print(rt: &impl Print, text: &str) -> io::Result<()> {
-    rt.print(text)
-}
+// The plants of an input that are not read yet.
+#[derive(Drop)]
+struct Plants<'a>(&'a [u8]);
 
-// A number and what stands after it.
-fn print_number(rt: &impl Print, x: u64, end: &str) -> io::Result<()> {
-    print!(rt; "{x}{end}")
-}
+impl<'a> Iterator for Plants<'a> {
+    type Item = &'a [u8];
 
-// How often a pair of places was looked at.
-fn all_looks(counts: &Counts) -> u64 {
-    let mut sum = 0;
-    let mut i = 0;
-    while i < Limits::PAIRS {
-        sum = wrapping_add_u64(sum, counts[i]);
-        i += 1;
+    ghost remaining = { λ s. at_most (length s.0.now) };
+
+    fn next(&mut self) -> Option<&'a [u8]> {
+        if self.0.is_empty() {
+            return None;
+        }
+        let len = u16::from_le_bytes([byte_or_zero(self.0, 0), byte_or_zero(self.0, 1)]);
+        let rest = self.0.get(2..).unwrap_or(&[]);
+        let end = usize::from(len).min(rest.len());
+        self.0 = &rest[end..];
+        Some(&rest[..end])
     }
-    sum
 }
 
-// The line of a plant of n by m vertices.
-fn print_counts(
-    rt: &impl Print,
-    n: u8,
-    m: u8,
-    searches: u64,
-    looks: u64,
-    t: Tally,
-) -> io::Result<()> {
-    print_number(rt, n as u64, " by ")?;
-    print_number(rt, m as u64, ": ")?;
-    print_number(rt, searches, " searches of at most ")?;
-    print_number(rt, t.most, ", ")?;
-    print_number(rt, looks, " looks; ")?;
-    print_number(rt, t.reached, " pairs reach their bound, the most is ")?;
-    print_number(rt, t.greatest, "; ")?;
-    if (t.searches == searches) & (t.looks == looks) {
-        print(rt, "the same pair by pair\n")
+// The line of a plant that is not refused, with the count of all and the tally by pairs.
+fn print_counts(rt: &impl Print, plant: Parts<'_>, counts: &Counts, t: Tally) -> io::Result<()> {
+    let n = byte_or_zero(plant.recorded, 2);
+    let m = byte_or_zero(plant.found, 2);
+    let searches = counts[SEARCHES];
+    let looks = counts
+        .iter()
+        .take(Limits::PAIRS)
+        .fold(0, |sum: u64, count| sum.wrapping_add(*count));
+    let Tally {
+        most,
+        reached,
+        greatest,
+        ..
+    } = t;
+    let not = if (t.searches == searches) & (t.looks == looks) {
+        ""
     } else {
-        print(rt, "NOT the same pair by pair\n")
-    }
+        "NOT "
+    };
+    print!(rt; "{n} by {m}: {searches} searches of at most {most}, {looks} looks; ")?;
+    print!(rt; "{reached} pairs reach their bound, the most is {greatest}; ")?;
+    println!(rt; "{not}the same pair by pair")
 }
 
 fn run_plant(rt: &impl Print, input: &[u8], work: &mut [i32]) -> io::Result<()> {
-    let p = split(input);
-    let a = p.recorded;
-    let b = p.found;
-    let table = &input[0..a];
-    let recorded = &input[a..b];
-    let found = &input[b..];
+    let plant = split(input);
     let mut counts = [0u64; Limits::PAIRS + 1];
-    let item = count_searches(table, recorded, found, work, &mut counts);
-    let t = tally_searches(table, recorded, found, work);
+    let item = count_searches(plant.table, plant.recorded, plant.found, work, &mut counts);
+    let t = tally_searches(plant.table, plant.recorded, plant.found, work);
     if item != 0 {
-        print(rt, "refused ")?;
-        return print_number(rt, item as u64, "\n");
+        return println!(rt; "refused {item}");
     }
-    let n = byte_or_zero(recorded, 2);
-    let m = byte_or_zero(found, 2);
-    print_counts(rt, n, m, counts[SEARCHES], all_looks(&counts), t)
+    print_counts(rt, plant, &counts, t)
 }
 
-// The plant whose length stands at `at`; answers where the next one's does.
-fn run_next(rt: &impl Print, input: &[u8], at: usize, work: &mut [i32]) -> io::Result<usize>
-    requires { at < length input.now }
-    ensures { IfOk result (λ next. (at < next) × (next ≤ length input.now)) }
-{
-    let low = byte_or_zero(input, at) as usize;
-    let high = byte_or_zero(input, at + 1) as usize;
-    let from = lesser(at + 2, input.len());
-    let to = lesser(from + (256 * high + low), input.len());
-    run_plant(rt, &input[from..to], work)?;
-    Ok(to)
-}
-
-fn run(rt: &impl Print, input: &[u8], work: &mut [i32]) -> io::Result<()> {
-    let mut at = 0;
-    while at < input.len() {
-        at = run_next(rt, input, at, work)?;
+fn run(rt: &impl Print, input: &[u8]) -> io::Result<()> {
+    let mut work = [0i32; Limits::SUBPROBLEMS];
+    for plant in Plants(input) {
+        run_plant(rt, plant, &mut work)?;
     }
     Ok(())
 }
@@ -106,6 +87,5 @@ fn run(rt: &impl Print, input: &[u8], work: &mut [i32]) -> io::Result<()> {
 fn main(rt: HostRuntime) -> io::Result<()> {
     let mut input = [0u8; 65536];
     let n = read_full(&mut rt.reader(), &mut input)?;
-    let mut work = [0i32; Limits::SUBPROBLEMS];
-    run(&rt, &input[..n], &mut work)
+    run(&rt, &input[..n])
 }

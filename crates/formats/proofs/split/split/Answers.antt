@@ -1,17 +1,22 @@
--- `split` meets its contract. Assumes nothing.
-use mathlib.Core.Path.{◌≡◌, ap, ◌∙◌}
-use Prim.Native.Nat.{ℕ, ◌+◌, ◌-◌, min}
-use lib.ListN.{length, take, drop, length-drop}
-use lib.Seq.{take_all}
-use Rattle.model.specs.Input.{tree_length}
+-- `split` meets its contract: where the parts end says which they are. Assumes nothing.
+use Rattle.std.proofs.Common.{◌≡◌, ◌+◌, ◌-◌, ℕ, length, ap, ◌∙◌, arith, min, drop-drop}
 use Rattle.formats.specs.Split.{split_at}
-use native.Mathlib.Omega.{arith}
 use Rattle.formats.proofs.split.split.Goals as goal
 
-pub returns : goal.returns
-returns c =
-    let i = c.args.input.now in
-    let a = c.lesser-recorded.result in
-    let whole : take (length i - a) (drop a i) ≡ drop a i = take_all (length i - a) (drop a i) (omega (arith, length-drop a i)) in
-    let t : c.tree_length.result ≡ tree_length (drop a i) = c.tree_length.ensures ∙ ap tree_length whole in
-    split_at i c.lesser-recorded.result _ (c.lesser-recorded.ensures ∙ ap (λ (x : ℕ). min x (length i)) c.table_length.ensures) (ap (λ (x : ℕ). c.lesser-recorded.result + x) (c.lesser.ensures ∙ rw (t, whole)))
+pub returns-clause-at : goal.returns-clause-at
+returns-clause-at c =
+    let table_end = c.split_at.ensures.front_len ∙ c.min-table_end.ensures ∙ ap (λ (n : ℕ). min n (length c.args.input.now)) c.table_length.ensures in
+    let recorded_end = c.split_at-2.ensures.front_len ∙ c.min-recorded_end.ensures ∙ ap (λ (n : ℕ). min n (length c.split_at.result.1.now)) c.tree_length.ensures in
+    split_at _ _ _ table_end (ap (λ (n : ℕ). length c.split_at.result.0.now + n) (rw (c.split_at.ensures.front_len, ← c.split_at.ensures.back) recorded_end))
+
+pub returns-clause-table : goal.returns-clause-table
+returns-clause-table c = c.split_at.ensures.front ∙ rw (← c.split_at.ensures.front_len) (returns-clause-at c).table
+
+pub returns-clause-recorded : goal.returns-clause-recorded
+returns-clause-recorded c =
+    let size : c.min-recorded_end.result ≡ (length c.split_at.result.0.now + length c.split_at-2.result.0.now) - length c.split_at.result.0.now = omega (arith, c.split_at-2.ensures.front_len) in
+    c.split_at-2.ensures.front ∙ rw (size, c.split_at.ensures.back, ← c.split_at.ensures.front_len) (returns-clause-at c).recorded
+
+pub returns-clause-found : goal.returns-clause-found
+returns-clause-found c =
+    c.split_at-2.ensures.back ∙ rw (← c.split_at-2.ensures.front_len, c.split_at.ensures.back, ← c.split_at.ensures.front_len, drop-drop) (returns-clause-at c).found

@@ -1,2 +1,0 @@
--- What reading a line says.
-pub mod Line

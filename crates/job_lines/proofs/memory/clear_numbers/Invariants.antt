@@ -1,9 +1,0 @@
--- `clear_numbers` keeps to the buffer. Assumes nothing.
-use Rattle.std.proofs.Common.{length, ◌≡◌, ◌-◌}
-use Rattle.job_lines.proofs.memory.clear_numbers.Given as goal
-
-abbrev pub invariant-loop-i : goal.invariant-loop-i
-invariant-loop-i l = length l.work ≡ length l.initial.work
-
-abbrev pub decreases-loop-i : goal.decreases-loop-i
-decreases-loop-i l = length l.initial.work - l.i
