@@ -16,13 +16,16 @@ use Rattle.certificate.specs.Places.{place_in}
 use Rattle.certificate.specs.Length.{record_inside}
 use Rattle.plan.specs.Plan.{offset_in, neighbour_in, behind_in, child_place_in, Ready, Pair}
 use Rattle.plan.specs.Pairs.{back_in, branch_index}
-use Rattle.records.specs.Places.{Laid, RowBegins, found_known}
+use Rattle.records.specs.Places.{Laid, PlacesTo, RowBegins, laid, found_known}
 
 -- inputs that pass, their plan, where their records stand, and a certificate of their length
 pub record Given (table r f : List ℕ) (plan places : List (List ℕ)) (z : List ℕ) : Type 0 where
   pub ready : Ready table r f plan
   pub laid : Laid r f plan places
   pub long : length z ≡ certificate_length r f
+
+pub given : {table r f : List ℕ} {plan places : List (List ℕ)} {z : List ℕ} → Ready table r f plan → PlacesTo r f (count r) places → length z ≡ certificate_length r f → Given table r f plan places z
+given N at long = record { ready = N; laid = laid N at; long = long }
 
 -- ---- one value
 

@@ -1,107 +1,57 @@
 //! Item 23, one record after the other: the rules of a subproblem's record. The gains of a pair of vertices are read once, for every choice of s.
-ghost use Rattle.records.specs.Places.{Laid};
+ghost use Rattle.std.specs.Prelude.{◌+◌};
+ghost use Rattle.records.specs.Cursor.{CursorAt};
 ghost use Rattle.check_records.specs.Records.{PairRead};
-ghost use Rattle.check_records.specs.Walk.{AtFirst, Ruling, Passing};
+ghost use Rattle.check_records.specs.Walk.{Walked, Ruling};
 
 use crate::gains::gains;
 use lengths::subproblem_length;
 use model::Gains;
-use plan::counts::subproblem_count;
+use plan::in_order;
 use plan::weights::vertex_pair;
-use plan::{Plan, in_order};
-use record_rules::record_ok;
-use records::cursor::{Cursor, counts_of, next};
-use records::{Places, begin};
+use record_rules::{Record, record_ok};
+use records::cursor::{Walk, counts_of, next};
+use records::sheet::Sheet;
 
-// How far the records are read: those passed, of how many, and whether each of them keeps the rules; the cursor of the subproblem whose record comes next,
-// and the weight of its pair of vertices, once it is read.
+// What is read of a pair of vertices at its first record, that of s = v: its weight, and the gains of its branches.
 #[derive(Clone, Copy)]
-pub struct Rules {
-    pub number: usize,
-    pub count: usize,
-    pub ok: bool,
-    pub cursor: Cursor,
+pub struct PairGains {
     pub weight: i32,
+    pub gains: Gains,
 }
 
-// Where the next record begins, and how far that is.
-#[derive(Clone, Copy)]
-pub struct RuleStep {
-    pub next: usize,
-    pub rules: Rules,
-}
-
-// No record is read yet: one for each subproblem is to come.
-pub fn unread(recorded: &[u8], found: &[u8], plan: &Plan, places: &Places) -> RuleStep
-    requires { Laid recorded.now found.now plan.now places.now }
-    ensures { AtFirst recorded.now found.now result.next result.rules }
+// Reads the pair that the cursor is at, where this is its first record.
+fn read_pair(sheet: &Sheet, pair: &mut PairGains, walk: Walk)
+    requires { Ruling pair.old.gains pair.old.weight sheet.now.on.now.table.now sheet.now.on.now.recorded.now sheet.now.on.now.found.now sheet.now.on.now.plan.now sheet.now.certificate.now walk }
+    ensures { PairRead sheet.now.on.now.table.now sheet.now.on.now.recorded.now sheet.now.on.now.found.now sheet.now.on.now.plan.now sheet.now.certificate.now walk.cursor.i walk.cursor.v pair.new.gains pair.new.weight }
 {
-    let count = subproblem_count(recorded, found);
-    let cursor = Cursor { i: 0, v: 0, q: 0 };
-    let rules = Rules {
-        number: 0,
-        count: count,
-        ok: true,
-        cursor: cursor,
-        weight: 0,
-    };
-    RuleStep {
-        next: begin(places, 0),
-        rules: rules,
-    }
-}
-
-// The weight of the pair of vertices that the cursor is at, whose gains are then in g: both are read at its first record, that of s = v.
-fn pair_weight(
-    g: &mut Gains,
-    table: &[u8],
-    recorded: &[u8],
-    found: &[u8],
-    plan: &Plan,
-    places: &Places,
-    z: &[u8],
-    at: usize,
-    s: Rules,
-) -> i32
-    requires { Ruling g.old table.now recorded.now found.now plan.now places.now z.now at s }
-    ensures { PairRead table.now recorded.now found.now plan.now z.now s.cursor.i s.cursor.v g.new result }
-{
-    let inside = s.cursor.q != 0;
+    let inside = walk.cursor.q != 0;
     if inside {
-        return s.weight;
+        return;
     }
-    let u = in_order(plan, s.cursor.i);
-    gains(g, table, recorded, found, plan, places, z, u, s.cursor.v);
-    vertex_pair(table, plan, u, s.cursor.v)
+    let u = in_order(sheet.on.plan, walk.cursor.i);
+    gains(&mut pair.gains, sheet, u, walk.cursor.v);
+    pair.weight = vertex_pair(sheet.on.table, sheet.on.plan, u, walk.cursor.v);
 }
 
-// The record at `at`, and on to the next.
-pub fn rule_step(
-    g: &mut Gains,
-    table: &[u8],
-    recorded: &[u8],
-    found: &[u8],
-    plan: &Plan,
-    places: &Places,
-    z: &[u8],
-    at: usize,
-    s: Rules,
-) -> RuleStep
-    requires { Ruling g.old table.now recorded.now found.now plan.now places.now z.now at s }
-    ensures { Passing g.new table.now recorded.now found.now plan.now z.now s result.next result.rules }
+// The next record, and on to the one after it.
+pub fn rule_step(sheet: &Sheet, pair: &mut PairGains, walk: Walk) -> Walk
+    requires { Ruling pair.old.gains pair.old.weight sheet.now.on.now.table.now sheet.now.on.now.recorded.now sheet.now.on.now.found.now sheet.now.on.now.plan.now sheet.now.certificate.now walk }
+    ensures { (k : _) → CursorAt sheet.now.on.now.found.now k walk.cursor.i walk.cursor.v walk.cursor.q → Walked pair.new.gains pair.new.weight sheet.now.on.now.table.now sheet.now.on.now.recorded.now sheet.now.on.now.found.now sheet.now.on.now.plan.now sheet.now.certificate.now (k + 1) result }
 {
-    let w = pair_weight(g, table, recorded, found, plan, places, z, at, s);
-    let n = counts_of(recorded, found, plan, s.cursor);
-    let here = record_ok(z, at, n.children, n.others, s.cursor.q, g, w);
-    let rules = Rules {
-        number: s.number + 1,
-        count: s.count,
-        ok: s.ok & here,
-        cursor: next(recorded, found, plan, s.cursor),
-        weight: w,
+    read_pair(sheet, pair, walk);
+    let counts = counts_of(sheet.on, walk.cursor);
+    let record = Record {
+        certificate: sheet.certificate,
+        at: walk.at,
+        counts,
+        q: walk.cursor.q,
     };
-    RuleStep {
-        next: at + subproblem_length(n.children as u8, n.others as u8),
-        rules: rules,
+    let here = record_ok(&record, &pair.gains, pair.weight);
+    let bytes = subproblem_length(counts.children as u8, counts.others as u8);
+    Walk {
+        at: walk.at + bytes,
+        ok: walk.ok & here,
+        cursor: next(sheet.on, walk.cursor),
     }
 }

@@ -1,10 +1,8 @@
 -- `check_certificate` tests the items of every call, makes the plan and the places, and hands on to the items 20 to 24. Assumes nothing.
-use mathlib.Core.Path.{◌≡◌, refl, sym, ◌∙◌}
-use borrow.Author.Rules.{rules}
+use Rattle.std.proofs.Common.{rules, ◌≡◌, refl, sym, ◌∙◌}
 use Rattle.model.specs.Calls.{input_item}
 use Rattle.formats.specs.Inputs.{input_sound}
 use Rattle.certificate.specs.Items.{check_input}
-use Rattle.plan.specs.Plan.{Ready}
 use Rattle.check_reader.proofs.check_certificate.Goals as goal
 
 pub returns-then-item-ne0 : goal.returns-then-item-ne0
@@ -13,19 +11,6 @@ returns-then-item-ne0 c =
 
 pub make-requires : goal.make-requires
 make-requires c =
-    let zero : input_item c.args.table.now c.args.recorded.now c.args.found.now ≡ 0 = let z : c.input_item-item.result ≡ 0 = search rules in sym c.input_item-item.ensures ∙ z in
-    record { plan_len = refl; sound = (input_sound _ _ _ (zero)).0; sound_2 = (input_sound _ _ _ (zero)).1 }
-
-pub places_of-requires : goal.places_of-requires
-places_of-requires c =
-    let zero : input_item c.args.table.now c.args.recorded.now c.args.found.now ≡ 0 = let z : c.input_item-item.result ≡ 0 = search rules in sym c.input_item-item.ensures ∙ z in
-    let ready : let a = c.args in
-    Ready a.table.now a.recorded.now a.found.now c.make.new.plan = record { passes = zero; planned = c.make.ensures } in
-    record { p_len = refl; inputs = record { table = c.args.table.now; ready = ready } }
-
-pub certificate_item-requires : goal.certificate_item-requires
-certificate_item-requires c =
-    let zero : input_item c.args.table.now c.args.recorded.now c.args.found.now ≡ 0 = let z : c.input_item-item.result ≡ 0 = search rules in sym c.input_item-item.ensures ∙ z in
-    let ready : let a = c.args in
-    Ready a.table.now a.recorded.now a.found.now c.make.new.plan = record { passes = zero; planned = c.make.ensures } in
-    record { ready = ready; laid = c.places_of.ensures }
+    let none : c.input_item-item.result ≡ 0 = search rules in
+    let zero : input_item c.args.table.now c.args.recorded.now c.args.found.now ≡ 0 = sym c.input_item-item.ensures ∙ none in
+    record { plan_len = refl; sound = (input_sound _ _ _ zero).0; sound_2 = (input_sound _ _ _ zero).1 }

@@ -1,10 +1,13 @@
--- `check_reader::marks` meets its contract: at each turn the walk goes on by a step of `mark_step`, and at its end all is read. Assumes nothing.
-use Rattle.std.specs.Prelude.{refl}
-use Rattle.check_front.specs.Marks.{going_first, going_end}
+-- `marks` meets its contract: at each turn the walk goes on by a step of `mark_step`, and at its end every record is passed. Assumes nothing.
+use Rattle.std.proofs.Common.{arith, refl, ◌≡◌, ◌∙◌}
+use Rattle.records.specs.Places.{ready_inputs}
+use Rattle.check_front.specs.Marks.{marked_none, marked_end}
 use Rattle.check_reader.proofs.marks.Goals as goal
 
-pub loop-m-init : goal.loop-m-init
-loop-m-init c = record { same = refl; going = going_first c.requires }
+pub loop-number-init : goal.loop-number-init
+loop-number-init c = record { same = refl; marked = rw c.from.ensures (marked_none _ (ready_inputs c.args.sheet.now.on.now.ready) c.requires) }
 
 pub returns : goal.returns
-returns c = going_end c.loop-m.invariant.going c.loop-m-test.false
+returns c =
+    let all : c.loop-number.number ≡ c.mark_count-count.result = omega arith in
+    marked_end (ready_inputs c.args.sheet.now.on.now.ready) c.args.sheet.now.long (all ∙ c.mark_count-count.ensures) c.loop-number.invariant.marked

@@ -1,13 +1,10 @@
--- The walk's invariant and its measure: the records that are still to come. Assumes nothing.
-use Rattle.std.proofs.Common.{◌-◌, ◌≡◌}
-use Rattle.check_front.specs.Marks.{Going}
+-- The walk's invariant: so many records are passed. Assumes nothing.
+use Rattle.std.proofs.Common.{◌≡◌}
+use Rattle.check_front.specs.Marks.{Marked}
 use Rattle.check_reader.proofs.marks.Given as goal
 
-abbrev pub invariant-loop-m : goal.invariant-loop-m
-invariant-loop-m l = record {
-  same : l.reader.certificate.now ≡ l.certificate;
-  going : Going l.recorded l.found l.plan l.p l.certificate l.reader.at l.m;
+abbrev pub invariant-loop-number : goal.invariant-loop-number
+invariant-loop-number l = record {
+  same : l.reader.sheet.now ≡ l.fn.sheet;
+  marked : Marked l.fn.sheet.on.now.recorded.now l.fn.sheet.on.now.found.now l.p l.fn.sheet.certificate.now l.number l.reader.walk;
 }
-
-abbrev pub decreases-loop-m : goal.decreases-loop-m
-decreases-loop-m l = l.m.count - l.m.number

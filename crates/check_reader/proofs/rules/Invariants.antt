@@ -1,13 +1,10 @@
--- The walk's invariant and its measure: the records that are still to come. Assumes nothing.
-use Rattle.std.proofs.Common.{◌-◌, ◌≡◌}
-use Rattle.check_records.specs.Walk.{Going}
+-- The walk's invariant: so many records are passed. Assumes nothing.
+use Rattle.std.proofs.Common.{◌≡◌}
+use Rattle.check_records.specs.Walk.{Walked}
 use Rattle.check_reader.proofs.rules.Given as goal
 
-abbrev pub invariant-loop-s : goal.invariant-loop-s
-invariant-loop-s l = record {
-  same : l.reader.certificate.now ≡ l.certificate;
-  going : Going l.g l.table l.recorded l.found l.plan l.places l.certificate l.reader.at l.s;
+abbrev pub invariant-loop-number : goal.invariant-loop-number
+invariant-loop-number l = record {
+  same : l.reader.sheet.now ≡ l.fn.sheet;
+  walked : Walked l.pair.gains l.pair.weight l.fn.sheet.on.now.table.now l.fn.sheet.on.now.recorded.now l.fn.sheet.on.now.found.now l.fn.sheet.on.now.plan.now l.fn.sheet.certificate.now l._number l.reader.walk;
 }
-
-abbrev pub decreases-loop-s : goal.decreases-loop-s
-decreases-loop-s l = l.s.count - l.s.number

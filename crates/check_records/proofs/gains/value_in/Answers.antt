@@ -1,29 +1,20 @@
--- `value_in_lem` meets its contract. Assumes nothing.
+-- `value_in` meets its contract. Assumes nothing.
+use Rattle.std.proofs.Common.{arith}
 use Rattle.foundations.specs.Machine.{Same, back}
+use Rattle.records.specs.Places.{laid}
 use Rattle.check_records.specs.Gains.{sits_choice, sits_inside, sits_value}
-use native.Mathlib.Omega.{arith}
 use Rattle.check_records.proofs.gains.value_in.Goals as goal
 
 pub offset-requires : goal.offset-requires
-offset-requires c =
-    let k = sits_choice c.requires.laid c.requires.sits in k.0
-
-pub overflow_sub-q : goal.overflow_sub-q
-overflow_sub-q c =
-    let k = sits_choice c.requires.laid c.requires.sits in omega (arith, k.1, c.offset.ensures)
-
-pub record_in-at-requires : goal.record_in-at-requires
-record_in-at-requires c =
-    let k = sits_choice c.requires.laid c.requires.sits in
-    record { laid = c.requires.laid; row_begins = c.requires.row_begins; v_bound = (c.requires.sits.low, rw c.offset.ensures k.2) }
+offset-requires c = (sits_choice (laid c.args.sheet.now.on.now.ready c.args.sheet.now.stand) c.requires.sits).0
 
 pub int32_at-requires : goal.int32_at-requires
 int32_at-requires c =
     let e = rw c.offset.ensures at c.record_in-at.ensures.0 in
-    omega (arith, c.requires.certificate_len, sits_inside c.requires.laid c.requires.sits c.requires.row_begins e)
+    omega (arith, c.args.sheet.now.long, sits_inside (laid c.args.sheet.now.on.now.ready c.args.sheet.now.stand) c.requires.sits c.requires.begins e)
 
 pub returns : goal.returns
 returns c =
     let e = rw c.offset.ensures at c.record_in-at.ensures.0 in
     let d : Same c.int32_at.result = back c.int32_at.type_inv in
-    rw d (sits_value c.requires.laid c.requires.sits c.requires.row_begins e c.args.certificate.now c.int32_at.result c.int32_at.ensures)
+    rw d (sits_value (laid c.args.sheet.now.on.now.ready c.args.sheet.now.stand) c.requires.sits c.requires.begins e c.args.sheet.now.certificate.now c.int32_at.result c.int32_at.ensures)
