@@ -1,7 +1,7 @@
 -- The main theorems of jobs, over the definitions alone: the first item that applies (`start_refusal_lem`, `advance_refusal_lem`, `finish_refusal`), the job in slices
 -- (`lent_slice` and `lent_job`, with `each_slice` and `sliced_job` for one list throughout), and finishing over any memory (`altered_finish`). Assumes
 -- nothing.
-use Rattle.std.specs.Prelude.{◌≡◌, refl, ◌≢◌, List, ◌++◌, ℕ, ◌+◌, ◌-◌, ◌≤◌, min, length, take, drop, ℤ}
+use Rattle.std.specs.Prelude.{◌≡◌, refl, ◌≢◌, List, ◌++◌, ℕ, ◌+◌, ◌-◌, ◌≤◌, min, length, take, drop, ℤ, Ok}
 use Rattle.std.proofs.Math.Path.{sym, ap}
 use Rattle.std.proofs.Common.{◌∙◌, subst, arith, zero-add}
 use Rattle.std.proofs.Math.Logic.{⊎_elim}
@@ -10,16 +10,15 @@ use Rattle.foundations.specs.Tests.{same?}
 use Rattle.model.specs.declared.JobRecord.{JobRecord}
 use Rattle.model.specs.declared.StartOutcome.{StartOutcome}
 use Rattle.model.specs.declared.AdvanceOutcome.{AdvanceOutcome}
-use Rattle.model.specs.declared.AdvanceAnswer.TheVariants.{Advanced}
-use Rattle.model.specs.declared.MatchAnswer.{MatchAnswer}
-use Rattle.model.specs.declared.MatchAnswer.TheVariants.{Found}
+use Rattle.model.specs.Refusals.{Answer, item_number, with_number}
+use Rattle.model.proofs.Refusals.{first_back}
 use Rattle.model.specs.Tree.{count}
 use Rattle.model.specs.Order.{subproblems}
 use Rattle.model.specs.Calls.{input_item}
 use Rattle.model.specs.Mapping.{IsMapping, Heaviest, weight}
 use Rattle.model.specs.Values.{values, answer}
 use Rattle.model.specs.Match.{refusal_of, weight_of}
-use Rattle.model.specs.Jobs.{start_item, advance_item, finish_item, start_of, started, advance_of, advance_work, start_refusal, advance_refusal, advance_count, advance_solves, StartCall, AdvanceCall, FinishCall}
+use Rattle.model.specs.Jobs.{start_items, start_item, advance_items, advance_item, finish_item, start_of, started, advance_of, advance_work, start_refusal, advance_refusal, advance_count, advance_solves, StartCall, AdvanceCall, FinishCall}
 use Rattle.job_items.specs.Items.{start_passed}
 use Rattle.jobs.specs.Outcomes.{start_accepted, advance_accepted, start_refused, advance_refused, advance_unfilled}
 use Rattle.jobs.specs.Slices.{Sliced, begins, goes, job_after, work_after, together, sliced_same, Running, running_item, running_counts, running_fills, running_step, running_lent, running_finish, running_values, behind, rest_same}
@@ -27,12 +26,19 @@ use Rattle.jobs.specs.Slices.{Sliced, begins, goes, job_after, work_after, toget
 -- ---- the first item that applies, and what a refusal leaves
 
 module _ (j : JobRecord) (table r f : List ℕ) (work : List ℤ) where
+  start_back : start_item table r f work ≢ 0 → item_number (with_number (start_item table r f work)) ≡ start_item table r f work
+  unfolding start_item
+  start_back = first_back (start_items table r f work) refl
+
+  advance_back : advance_item j table r f work ≢ 0 → item_number (with_number (advance_item j table r f work)) ≡ advance_item j table r f work
+  unfolding advance_item
+  advance_back = first_back (advance_items j table r f work) refl
+
   -- the answer's number is the first item that applies, 0 for none
   pub start_refusal_lem : start_refusal (start_of j table r f work).answer ≡ start_item table r f work
-  unfolding start_refusal
   start_refusal_lem = ⊎_elim
       (λ e. ap (λ o. start_refusal o.answer) (start_accepted j table r f work e) ∙ sym e)
-      (λ n. ap (λ o. start_refusal o.answer) (start_refused j table r f work n))
+      (λ n. ap (λ o. start_refusal o.answer) (start_refused j table r f work n) ∙ start_back n)
       (same? (start_item table r f work) 0)
 
   -- a refused start leaves the record
@@ -41,10 +47,9 @@ module _ (j : JobRecord) (table r f : List ℕ) (work : List ℤ) where
 
   module _ (b : ℕ) where
     pub advance_refusal_lem : advance_refusal (advance_of j table r f b work).answer ≡ advance_item j table r f work
-    unfolding advance_refusal
     advance_refusal_lem = ⊎_elim
         (λ e. ap (λ o. advance_refusal o.answer) (advance_accepted j table r f b work e) ∙ sym e)
-        (λ n. ap (λ o. advance_refusal o.answer) (advance_refused j table r f b work n))
+        (λ n. ap (λ o. advance_refusal o.answer) (advance_refused j table r f b work n) ∙ advance_back n)
         (same? (advance_item j table r f work) 0)
 
     -- a refused advance leaves the record and the work numbers
@@ -53,7 +58,7 @@ module _ (j : JobRecord) (table r f : List ℕ) (work : List ℤ) where
 
     -- an accepted one counts the smaller of the budget and what is left, a refused one nothing
     pub advance_count_lem : advance_count (advance_of j table r f b work).answer ≡ advance_solves j table r f b work
-    unfolding advance_count advance_solves
+    unfolding advance_solves
     advance_count_lem = ⊎_elim
         (λ e. rw (advance_accepted j table r f b work e, e))
         (λ n. rw (advance_refused j table r f b work n, ne_eqb (advance_item j table r f work) 0 n))
@@ -72,7 +77,7 @@ advance_call {j} {table} {r} {f} {b} {work} e = record {
 }
 
 -- finish: the answer is a refusal exactly if an item applies, with the first, and then the mapping is as it was
-module _ (j : JobRecord) (table r f : List ℕ) (work : List ℤ) (mapping mapping' : List ℕ) (a : MatchAnswer) (call : FinishCall j table r f work mapping mapping' a) where
+module _ (j : JobRecord) (table r f : List ℕ) (work : List ℤ) (mapping mapping' : List ℕ) (a : Answer ℤ) (call : FinishCall j table r f work mapping mapping' a) where
   pub finish_refusal : refusal_of a ≡ finish_item j table r f work mapping
   finish_refusal = ⊎_elim (λ e. (call.finished e).number ∙ sym e) (λ n. (call.refused n).number) (same? (finish_item j table r f work mapping) 0)
 
@@ -123,7 +128,7 @@ module _ (table r f : List ℕ) (work : List ℤ) (passes : start_item table r f
     -- those before are the values already, and those behind stay
     pub lent_slice : (b : ℕ) →
         (advance_item j table r f lent ≡ 0)
-        × ((advance_of j table r f b lent).answer ≡ Advanced (min b (subproblems r f - reached sum)))
+        × ((advance_of j table r f b lent).answer ≡ Ok (min b (subproblems r f - reached sum)))
         × (take (reached sum) lent ≡ take (reached sum) (values table r f))
         × (advance_work j table r f b lent ≡ take (reached sum + min b (subproblems r f - reached sum)) (values table r f) ++ drop (reached sum + min b (subproblems r f - reached sum)) lent)
     lent_slice b = (running_item table r f given j₀.total running, running_counts table r f given j₀.total running b, running.front, running_fills table r f given j₀.total running b)
@@ -132,7 +137,7 @@ module _ (table r f : List ℕ) (work : List ℤ) (passes : start_item table r f
     pub lent_job : subproblems r f ≤ sum → (mapping : List ℕ) → count r ≤ length mapping →
         (finish_item j table r f lent mapping ≡ 0)
         × (take (subproblems r f) lent ≡ values table r f)
-        × ((mapping' : List ℕ) (a : MatchAnswer) → FinishCall j table r f lent mapping mapping' a → Heaviest table r f (take (count r) mapping') × (a ≡ Found (answer table r f)))
+        × ((mapping' : List ℕ) (a : Answer ℤ) → FinishCall j table r f lent mapping mapping' a → Heaviest table r f (take (count r) mapping') × (a ≡ Ok (answer table r f)))
     lent_job l mapping room =
         let all : reached sum ≡ subproblems r f = omega arith in
         let e = running_finish table r f given j₀.total running all mapping room in
@@ -153,7 +158,7 @@ module _ (table r f : List ℕ) (work : List ℤ) (passes : start_item table r f
   -- what the list holds behind the values is what it held at the start
   pub each_slice : (bs : List ℕ) (b : ℕ) →
       (advance_item (after bs) table r f (left bs) ≡ 0)
-      × ((advance_of (after bs) table r f b (left bs)).answer ≡ Advanced (min b (subproblems r f - reached (together bs))))
+      × ((advance_of (after bs) table r f b (left bs)).answer ≡ Ok (min b (subproblems r f - reached (together bs))))
       × (left bs ≡ take (reached (together bs)) (values table r f) ++ drop (reached (together bs)) work)
       × (advance_work (after bs) table r f b (left bs) ≡ take (reached (together bs) + min b (subproblems r f - reached (together bs))) (values table r f) ++ drop (reached (together bs) + min b (subproblems r f - reached (together bs))) work)
   each_slice bs b =
@@ -166,5 +171,5 @@ module _ (table r f : List ℕ) (work : List ℤ) (passes : start_item table r f
 
   pub sliced_job : (bs : List ℕ) → subproblems r f ≤ together bs → (mapping : List ℕ) → count r ≤ length mapping →
       (finish_item (after bs) table r f (left bs) mapping ≡ 0)
-      × ((mapping' : List ℕ) (a : MatchAnswer) → FinishCall (after bs) table r f (left bs) mapping mapping' a → Heaviest table r f (take (count r) mapping') × (a ≡ Found (answer table r f)))
+      × ((mapping' : List ℕ) (a : Answer ℤ) → FinishCall (after bs) table r f (left bs) mapping mapping' a → Heaviest table r f (take (count r) mapping') × (a ≡ Ok (answer table r f)))
   sliced_job bs l mapping room = let t = lent_job (chain bs) (left bs) refl l mapping room in (t.0, t.2)

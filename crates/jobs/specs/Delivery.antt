@@ -1,9 +1,8 @@
 -- What reading out and weighing leaves at the end of a job, over any work numbers that item 16 lets pass. Assumes nothing.
-use Rattle.std.specs.Prelude.{◌≡◌, refl, ◌≢◌, List, ◌++◌, ℕ, ◌<◌, take, drop, replicate, ℤ, pos}
+use Rattle.std.specs.Prelude.{◌≡◌, refl, ◌≢◌, List, ◌++◌, ℕ, ◌<◌, take, drop, replicate, ℤ, pos, Ok}
 use Rattle.std.proofs.Common.{sym, ap, ◌∙◌, subst, ⊎_elim, take-append-drop, take_at}
 use Rattle.std.proofs.lemmas.List.{length-replicate}
-use Rattle.model.specs.declared.MatchAnswer.{MatchAnswer}
-use Rattle.model.specs.declared.MatchAnswer.TheVariants.{Found}
+use Rattle.model.specs.Refusals.{Answer}
 use Rattle.model.specs.Limits.{no_vertex}
 use Rattle.model.specs.Weights.{some}
 use Rattle.model.specs.Tree.{count}
@@ -62,14 +61,13 @@ module _ (table r f : List ℕ) (passes : input_item table r f ≡ 0) (work : Li
     }
 
 -- so the call has finished
-pub delivered_finished : (table r f : List ℕ) → input_item table r f ≡ 0 → (work : List ℤ) (mapping mapping' : List ℕ) (w : ℤ) (a : MatchAnswer) → Delivered table r f work mapping mapping' w → a ≡ Found w → Finished table r f work mapping mapping' a
-unfolding refusal_of weight_of
+pub delivered_finished : (table r f : List ℕ) → input_item table r f ≡ 0 → (work : List ℤ) (mapping mapping' : List ℕ) (w : ℤ) (a : Answer ℤ) → Delivered table r f work mapping mapping' w → a ≡ Ok w → Finished table r f work mapping mapping' a
 delivered_finished table r f passes work mapping mapping' w a d e = record {
   rest = d.rest;
   legal = d.legal;
-  given = e ∙ ap Found d.exact;
+  given = e ∙ ap Ok d.exact;
   number = ap refusal_of e;
   weighs = ap weight_of e ∙ d.exact;
   heaviest = d.heaviest;
-  answered = λ same. e ∙ ap Found (d.exact ∙ ((heaviest_exactly table r f passes (take (count r) mapping')).0 (d.heaviest same)).1);
+  answered = λ same. e ∙ ap Ok (d.exact ∙ ((heaviest_exactly table r f passes (take (count r) mapping')).0 (d.heaviest same)).1);
 }

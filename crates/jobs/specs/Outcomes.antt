@@ -1,24 +1,23 @@
 -- What the code's branches of a start and an advance give is what the definitions say. Assumes nothing.
-use Rattle.std.specs.Prelude.{◌≡◌, ◌≢◌, List, ℕ, ◌-◌, min, ℤ}
-use Rattle.std.proofs.Common.{sym, ap, ◌∙◌, ne_eqb}
+use Rattle.std.specs.Prelude.{◌≡◌, ◌≢◌, List, ℕ, ◌-◌, min, ℤ, ⊤, Ok, Err, MatchResult}
+use Rattle.std.proofs.Common.{sym, ap, ◌∙◌, ne_eqb, ⊎_elim}
+use Rattle.foundations.specs.Tests.{same?}
 use Rattle.model.specs.declared.JobRecord.{JobRecord}
-use Rattle.model.specs.declared.StartAnswer.TheVariants.{Started}
-use Rattle.model.specs.declared.StartAnswer.TheVariants as start
 use Rattle.model.specs.declared.StartOutcome.{StartOutcome}
-use Rattle.model.specs.declared.AdvanceAnswer.TheVariants.{Advanced}
-use Rattle.model.specs.declared.AdvanceAnswer.TheVariants as advance
 use Rattle.model.specs.declared.AdvanceOutcome.{AdvanceOutcome}
+use Rattle.model.specs.Refusals.{Answer, refusal_in, with_number}
+use Rattle.model.proofs.Refusals.{refused_is}
 use Rattle.model.specs.Order.{subproblems}
 use Rattle.model.specs.Values.{fill}
 use Rattle.model.specs.Jobs.{start_item, advance_item, started, start_of, slice_count, advanced, advance_of, advance_work}
 
 -- ---- a call that is not refused
 
-pub start_accepted : (j : JobRecord) (table r f : List ℕ) (work : List ℤ) → start_item table r f work ≡ 0 → start_of j table r f work ≡ record { job = started j r f; answer = Started }
+pub start_accepted : (j : JobRecord) (table r f : List ℕ) (work : List ℤ) → start_item table r f work ≡ 0 → start_of j table r f work ≡ record { job = started j r f; answer = Ok tt }
 unfolding start_of
 start_accepted j table r f work e = rw e
 
-pub advance_accepted : (j : JobRecord) (table r f : List ℕ) (b : ℕ) (work : List ℤ) → advance_item j table r f work ≡ 0 → advance_of j table r f b work ≡ record { job = advanced j (slice_count j r f b); answer = Advanced (slice_count j r f b) }
+pub advance_accepted : (j : JobRecord) (table r f : List ℕ) (b : ℕ) (work : List ℤ) → advance_item j table r f work ≡ 0 → advance_of j table r f b work ≡ record { job = advanced j (slice_count j r f b); answer = Ok (slice_count j r f b) }
 unfolding advance_of
 advance_accepted j table r f b work e = rw e
 
@@ -28,11 +27,11 @@ advance_fills j table r f b work e = rw e
 
 -- ---- a call that is
 
-pub start_refused : (j : JobRecord) (table r f : List ℕ) (work : List ℤ) → start_item table r f work ≢ 0 → start_of j table r f work ≡ record { job = j; answer = start.Refused (start_item table r f work) }
+pub start_refused : (j : JobRecord) (table r f : List ℕ) (work : List ℤ) → start_item table r f work ≢ 0 → start_of j table r f work ≡ record { job = j; answer = Err (with_number (start_item table r f work)) }
 unfolding start_of
 start_refused j table r f work n = rw (ne_eqb (start_item table r f work) 0 n)
 
-pub advance_refused : (j : JobRecord) (table r f : List ℕ) (b : ℕ) (work : List ℤ) → advance_item j table r f work ≢ 0 → advance_of j table r f b work ≡ record { job = j; answer = advance.Refused (advance_item j table r f work) }
+pub advance_refused : (j : JobRecord) (table r f : List ℕ) (b : ℕ) (work : List ℤ) → advance_item j table r f work ≢ 0 → advance_of j table r f b work ≡ record { job = j; answer = Err (with_number (advance_item j table r f work)) }
 unfolding advance_of
 advance_refused j table r f b work n = rw (ne_eqb (advance_item j table r f work) 0 n)
 
@@ -40,22 +39,40 @@ pub advance_unfilled : (j : JobRecord) (table r f : List ℕ) (b : ℕ) (work : 
 unfolding advance_work
 advance_unfilled j table r f b work n = rw (ne_eqb (advance_item j table r f work) 0 n)
 
--- ---- as the code has it: a number, a record and work numbers that are equal to those
+-- ---- as the code has it: an answer, a record and work numbers that are equal to those
 
-pub start_refused_as : (j : JobRecord) (table r f : List ℕ) (work : List ℤ) (k : ℕ) → k ≡ start_item table r f work → k ≢ 0 → ◌≡◌ {A = StartOutcome} (record { job = j; answer = start.Refused k }) (start_of j table r f work)
-start_refused_as j table r f work k e n = ap (λ (i : ℕ). record { job = j; answer = start.Refused i }) e ∙ sym (start_refused j table r f work (λ z. n (e ∙ z)))
+pub start_refused_as : (j : JobRecord) (table r f : List ℕ) (work : List ℤ) (a : Answer ⊤) → refusal_in a ≡ start_item table r f work → start_item table r f work ≢ 0 → ◌≡◌ {A = StartOutcome} (record { job = j; answer = a }) (start_of j table r f work)
+start_refused_as j table r f work a e n = ap (λ (x : Answer ⊤). record { job = j; answer = x }) (refused_is a e n) ∙ sym (start_refused j table r f work n)
 
-pub start_accepted_as : (j : JobRecord) (table r f : List ℕ) (work : List ℤ) (j' : JobRecord) → j' ≡ started j r f → start_item table r f work ≡ 0 → ◌≡◌ {A = StartOutcome} (record { job = j'; answer = Started }) (start_of j table r f work)
-start_accepted_as j table r f work j' e z = ap (λ (i : JobRecord). record { job = i; answer = Started }) e ∙ sym (start_accepted j table r f work z)
+pub start_accepted_as : (j : JobRecord) (table r f : List ℕ) (work : List ℤ) (j' : JobRecord) → j' ≡ started j r f → start_item table r f work ≡ 0 → ◌≡◌ {A = StartOutcome} (record { job = j'; answer = Ok tt }) (start_of j table r f work)
+start_accepted_as j table r f work j' e z = ap (λ (i : JobRecord). record { job = i; answer = Ok tt }) e ∙ sym (start_accepted j table r f work z)
 
-pub advance_refused_as : (j : JobRecord) (table r f : List ℕ) (work : List ℤ) (b k : ℕ) → k ≡ advance_item j table r f work → k ≢ 0 → ◌≡◌ {A = AdvanceOutcome} (record { job = j; answer = advance.Refused k }) (advance_of j table r f b work) × (work ≡ advance_work j table r f b work)
-advance_refused_as j table r f work b k e n =
-    let m : advance_item j table r f work ≢ 0 = λ z. n (e ∙ z) in
-    (ap (λ (i : ℕ). record { job = j; answer = advance.Refused i }) e ∙ sym (advance_refused j table r f b work m), sym (advance_unfilled j table r f b work m))
+-- what an advance answers and fills
+abbrev pub AdvanceIs : JobRecord → List ℕ → List ℕ → List ℕ → ℕ → List ℤ → Answer ℕ → List ℤ → Type 0
+AdvanceIs j table r f b work a work' = (a ≡ (advance_of j table r f b work).answer) × (work' ≡ advance_work j table r f b work)
 
-pub advance_accepted_as : (j : JobRecord) (table r f : List ℕ) (work : List ℤ) (b : ℕ) (j' : JobRecord) (c : ℕ) (work' : List ℤ) → j' ≡ advanced j c → c ≡ min b (subproblems r f - j.position) → advance_item j table r f work ≡ 0 → work' ≡ fill table r f work j.position c → ◌≡◌ {A = AdvanceOutcome} (record { job = j'; answer = Advanced c }) (advance_of j table r f b work) × (work' ≡ advance_work j table r f b work)
+pub advance_refused_as : (j : JobRecord) (table r f : List ℕ) (work : List ℤ) (b : ℕ) (a : Answer ℕ) → refusal_in a ≡ advance_item j table r f work → advance_item j table r f work ≢ 0 → AdvanceIs j table r f b work a work
+advance_refused_as j table r f work b a e n = (refused_is a e n ∙ sym (ap (λ o. o.answer) (advance_refused j table r f b work n)), sym (advance_unfilled j table r f b work n))
+
+pub advance_accepted_as : (j : JobRecord) (table r f : List ℕ) (work : List ℤ) (b c : ℕ) (work' : List ℤ) → c ≡ min b (subproblems r f - j.position) → advance_item j table r f work ≡ 0 → work' ≡ fill table r f work j.position c → AdvanceIs j table r f b work (Ok c) work'
 unfolding slice_count
-advance_accepted_as j table r f work b j' c work' e s z w = (
-  ap (λ (i : JobRecord). record { job = i; answer = Advanced c }) e ∙ ap (λ (n : ℕ). record { job = advanced j n; answer = Advanced n }) s ∙ sym (advance_accepted j table r f b work z),
+advance_accepted_as j table r f work b c work' s z w = (
+  ap Ok s ∙ sym (ap (λ o. o.answer) (advance_accepted j table r f b work z)),
   w ∙ ap (λ (n : ℕ). fill table r f work j.position n) s ∙ sym (advance_fills j table r f b work z),
 )
+
+-- so the record goes on by the count, or stays
+pub advance_outcome : (j : JobRecord) (table r f : List ℕ) (work : List ℤ) (b : ℕ) (a : Answer ℕ) (j' : JobRecord) → a ≡ (advance_of j table r f b work).answer → MatchResult a (λ c. j' ≡ advanced j c) (λ e. j' ≡ j)
+    → ◌≡◌ {A = AdvanceOutcome} (record { job = j'; answer = a }) (advance_of j table r f b work)
+advance_outcome j table r f work b a j' e m = ⊎_elim
+    (λ z.
+    let o = advance_accepted j table r f b work z in
+    let is : a ≡ Ok (slice_count j r f b) = e ∙ ap (λ o. o.answer) o in
+    let to : j' ≡ advanced j (slice_count j r f b) = rw is at m in
+    rw (to, is) (sym o))
+    (λ n.
+    let o = advance_refused j table r f b work n in
+    let is : a ≡ Err (with_number (advance_item j table r f work)) = e ∙ ap (λ o. o.answer) o in
+    let to : j' ≡ j = rw is at m in
+    rw (to, is) (sym o))
+    (same? (advance_item j table r f work) 0)

@@ -1,6 +1,6 @@
 -- A job in slices over undisturbed memory: after any advances the work numbers begin with the values as far as the position, every advance is
 -- accepted and counts the smaller of its budget and what is left, and at the end the mapping is a heaviest one. Assumes nothing.
-use Rattle.std.specs.Prelude.{◌≡◌, refl, true, false, cond, length, get_or, ltb, ℤ, pos}
+use Rattle.std.specs.Prelude.{◌≡◌, refl, true, false, cond, length, get_or, ltb, ℤ, pos, Ok}
 use Rattle.std.proofs.Common.{sym, ◌∙◌, add-zero, take-append-drop, length-take, length-drop, length-append, take_at, take-take, drop_at, drop-drop, get_or-take, take_all}
 use Rattle.std.proofs.Math.Path.{ap, subst}
 use mathlib.Core.List.{List, [], ◌∷◌, ◌++◌}
@@ -10,7 +10,6 @@ use Rattle.std.proofs.Math.ListN.{take, drop}
 use borrow.Author.Tests.{le-leb, le-ltb, eq-eqb}
 use Rattle.model.specs.Limits.{vertex_limit}
 use Rattle.model.specs.declared.JobRecord.{JobRecord}
-use Rattle.model.specs.declared.AdvanceAnswer.TheVariants.{Advanced}
 use Rattle.model.specs.Tree.{count}
 use Rattle.model.specs.Order.{width, subproblems}
 use Rattle.model.specs.Calls.{input_item}
@@ -117,8 +116,8 @@ module _ (table r f : List ℕ) (passes : input_item table r f ≡ 0) (total₀ 
     slice_is b = rw R.here
 
     -- it counts the smaller of its budget and what is left
-    pub running_counts : (b : ℕ) → (advance_of j table r f b work).answer ≡ Advanced (min b (N - p))
-    running_counts b = ap (λ o. o.answer) (advance_accepted j table r f b work running_item) ∙ ap Advanced (slice_is b)
+    pub running_counts : (b : ℕ) → (advance_of j table r f b work).answer ≡ Ok (min b (N - p))
+    running_counts b = ap (λ o. o.answer) (advance_accepted j table r f b work running_item) ∙ ap Ok (slice_is b)
 
     -- fills exactly those work numbers, with the values
     pub running_fills : (b : ℕ) → advance_work j table r f b work ≡ take (p + min b (N - p)) Vs ++ drop (p + min b (N - p)) work

@@ -5,7 +5,9 @@
 mod delivery;
 mod slices;
 
-ghost use Rattle.std.specs.Prelude.{◌≡◌};
+ghost use Rattle.std.specs.Prelude.{◌≡◌, ◌+◌, ◌≤◌, IfOk};
+ghost use Rattle.model.specs.Limits.{subproblem_limit};
+ghost use Rattle.model.specs.Refusals.{refusal_in};
 ghost use Rattle.model.specs.Jobs.{StartCall, AdvanceCall, advance_of, advance_work, finish_item, FinishCall};
 ghost use Rattle.job_items.specs.Items.{early_item};
 
@@ -13,9 +15,7 @@ use crate::delivery::deliver;
 use crate::slices::{begun, moved, slice_of};
 use job_items::work::work_ok;
 use job_items::{early_item, is_left, start_item};
-use model::{
-    AdvanceAnswer, AdvanceOutcome, JobRecord, Limits, MatchAnswer, StartAnswer, StartOutcome,
-};
+use model::{AdvanceOutcome, JobRecord, Limits, Refusal, StartOutcome};
 use plan::Blocks;
 use plan::instance::Instance;
 use planning::make;
@@ -32,39 +32,59 @@ pub fn start_core(
 ) -> StartOutcome
     ensures { StartCall job table.now recorded.now found.now work.now result }
 {
-    let item = start_item(table, recorded, found, work);
-    if item != 0 {
-        return StartOutcome {
-            job,
-            answer: StartAnswer::Refused(item),
-        };
-    }
-    StartOutcome {
-        job: begun(job, recorded, found),
-        answer: StartAnswer::Started,
-    }
+    let answer = start_item(table, recorded, found, work);
+    let job = match answer {
+        Ok(()) => begun(job, recorded, found),
+        Err(_) => job,
+    };
+    StartOutcome { job, answer }
 }
 
-// An advance over the plan; of its items only 16 is not tested yet.
-fn advance_ready(on: &Instance, job: JobRecord, budget: u32, work: &mut [i32]) -> AdvanceOutcome
+// Solves an advance's slice over the plan, of whose items only 16 is not tested yet, and answers how many subproblems it has.
+fn advance_ready(
+    on: &Instance,
+    job: JobRecord,
+    budget: u32,
+    work: &mut [i32],
+) -> Result<u32, Refusal>
     requires { early_item job on.now.table.now on.now.recorded.now on.now.found.now work.old ≡ 0 }
-    ensures { (result ≡ advance_of job on.now.table.now on.now.recorded.now on.now.found.now budget work.old)
+    ensures answers { (result ≡ (advance_of job on.now.table.now on.now.recorded.now on.now.found.now budget work.old).answer)
         × (work.new ≡ advance_work job on.now.table.now on.now.recorded.now on.now.found.now budget work.old) }
+    ensures within { IfOk result (λ count. job.position + count ≤ subproblem_limit) }
 {
     let position = job.position;
     let fine = work_ok(on, work, position as usize);
     if !fine {
-        return AdvanceOutcome {
-            job,
-            answer: AdvanceAnswer::Refused(16),
-        };
+        return Err(Refusal::WorkNumber);
     }
     let count = slice_of(on, position, budget);
     fill(on, work, position as usize, count as usize);
-    AdvanceOutcome {
-        job: moved(job, count),
-        answer: AdvanceAnswer::Advanced(count),
-    }
+    Ok(count)
+}
+
+// The same, all items tested.
+fn advance_slice(
+    job: JobRecord,
+    table: &[u8],
+    recorded: &[u8],
+    found: &[u8],
+    budget: u32,
+    work: &mut [i32],
+) -> Result<u32, Refusal>
+    ensures answers { (result ≡ (advance_of job table.now recorded.now found.now budget work.old).answer)
+        × (work.new ≡ advance_work job table.now recorded.now found.now budget work.old) }
+    ensures within { IfOk result (λ count. job.position + count ≤ subproblem_limit) }
+{
+    early_item(job, table, recorded, found, work)?;
+    let mut plan = [[0u8; Limits::PLACES]; Blocks::ALL];
+    make(&mut plan, recorded, found);
+    let on = Instance {
+        table,
+        recorded,
+        found,
+        plan: &plan,
+    };
+    advance_ready(&on, job, budget, work)
 }
 
 // Entry point.
@@ -79,54 +99,45 @@ pub fn advance_core(
 ) -> AdvanceOutcome
     ensures { AdvanceCall job table.now recorded.now found.now budget work.old work.new result }
 {
-    let item = early_item(job, table, recorded, found, work);
-    if item != 0 {
-        return AdvanceOutcome {
-            job,
-            answer: AdvanceAnswer::Refused(item),
-        };
-    }
-    let mut plan = [[0u8; Limits::PLACES]; Blocks::ALL];
-    make(&mut plan, recorded, found);
-    let on = Instance {
-        table,
-        recorded,
-        found,
-        plan: &plan,
+    let answer = advance_slice(job, table, recorded, found, budget, work);
+    let job = match answer {
+        Ok(count) => moved(job, count),
+        Err(_) => job,
     };
-    advance_ready(&on, job, budget, work)
+    AdvanceOutcome { job, answer }
 }
 
-// The first of a finish's items 16 to 18 that applies, 0 for none, where none before applies.
-fn late_item(on: &Instance, job: JobRecord, work: &[i32], mapping: &[u8]) -> u8
+// The first of a finish's items 16 to 18 that applies, where none before applies.
+fn late_item(on: &Instance, job: JobRecord, work: &[i32], mapping: &[u8]) -> Result<(), Refusal>
     requires { early_item job on.now.table.now on.now.recorded.now on.now.found.now work.now ≡ 0 }
-    ensures { result ≡ finish_item job on.now.table.now on.now.recorded.now on.now.found.now work.now mapping.now }
+    ensures { refusal_in result ≡ finish_item job on.now.table.now on.now.recorded.now on.now.found.now work.now mapping.now }
 {
     let fine = work_ok(on, work, job.position as usize);
     if !fine {
-        return 16;
+        return Err(Refusal::WorkNumber);
     }
     let left = is_left(job, on.recorded, on.found);
     if left {
-        return 17;
+        return Err(Refusal::JobUnfinished);
     }
     if mapping.len() < on.n() {
-        return 18;
+        return Err(Refusal::MappingShort);
     }
-    0
+    Ok(())
 }
 
 // A finish over the plan; of its items only 16 to 18 are not tested yet.
-fn finish_ready(on: &Instance, job: JobRecord, work: &[i32], mapping: &mut [u8]) -> MatchAnswer
+fn finish_ready(
+    on: &Instance,
+    job: JobRecord,
+    work: &[i32],
+    mapping: &mut [u8],
+) -> Result<i32, Refusal>
     requires { early_item job on.now.table.now on.now.recorded.now on.now.found.now work.now ≡ 0 }
     ensures { FinishCall job on.now.table.now on.now.recorded.now on.now.found.now work.now mapping.old mapping.new result }
 {
-    let item = late_item(on, job, work, mapping);
-    if item != 0 {
-        return MatchAnswer::Refused(item);
-    }
-    let w = deliver(on, work, mapping);
-    MatchAnswer::Found(w)
+    late_item(on, job, work, mapping)?;
+    Ok(deliver(on, work, mapping))
 }
 
 // Entry point.
@@ -139,13 +150,10 @@ pub fn finish(
     found: &[u8],
     work: &[i32],
     mapping: &mut [u8],
-) -> MatchAnswer
+) -> Result<i32, Refusal>
     ensures { FinishCall job table.now recorded.now found.now work.now mapping.old mapping.new result }
 {
-    let item = early_item(job, table, recorded, found, work);
-    if item != 0 {
-        return MatchAnswer::Refused(item);
-    }
+    early_item(job, table, recorded, found, work)?;
     let mut plan = [[0u8; Limits::PLACES]; Blocks::ALL];
     make(&mut plan, recorded, found);
     let on = Instance {

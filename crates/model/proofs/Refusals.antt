@@ -1,12 +1,13 @@
 -- A refusal and its number: each number from 1 to 26 is that of one refusal; and what an answer is, from the number in it. Assumes nothing.
-use Rattle.std.specs.Prelude.{◌≡◌, refl, ◌≢◌, true, ℕ, ◌+◌, ◌-◌, ◌≤◌, eqb, Result, Ok, Err, IsErrAnd, MatchResult, ◌↔◌}
-use Rattle.std.proofs.Common.{sym, ap, ◌∙◌, arith, eqb-true}
+use Rattle.std.specs.Prelude.{◌≡◌, refl, ◌≢◌, Bool, true, false, ◌&&◌, List, [], ◌∷◌, leb, ℕ, ◌+◌, ◌-◌, ◌≤◌, eqb, Result, Ok, Err, IsErrAnd, MatchResult, ◌↔◌}
+use Rattle.std.proofs.Common.{sym, ap, ◌∙◌, arith, eqb-true, leb-true}
+use Rattle.foundations.specs.Tests.{and_split}
 use Rattle.foundations.specs.Lists.{every, every_at}
 use Rattle.model.specs.declared.refusal.TreeFault.{TreeFault}
 use Rattle.model.specs.declared.refusal.TreeFault.TheVariants.{Shape, Labels, Ends, Cycle, Degree, Serials}
 use Rattle.model.specs.declared.refusal.Refusal.{Refusal}
 use Rattle.model.specs.declared.refusal.Refusal.TheVariants.{TableShape, TableWeights, Recorded, Found, WorkShort, JobRecord, JobTrees, WorkNumber, JobUnfinished, MappingShort, CertificateShort, CertificateShape, CertificateMapping, CertificateWeight, CertificateRecord, CertificateAnswer}
-use Rattle.model.specs.Refusals.{tree_number, item_number, refusals, with_number, Answer, refusal_in, RefusedBy, fault_in}
+use Rattle.model.specs.Refusals.{Item, item, first_of, tree_number, item_number, refusals, with_number, Answer, refusal_in, RefusedBy, fault_in}
 
 pub with_own_number : (e : Refusal) → with_number (item_number e) ≡ e
 unfolding with_number refusals
@@ -79,6 +80,20 @@ number_back k l h =
     let e : k - 1 + 1 ≡ k = omega arith in
     let is : item_number (with_number (k - 1 + 1)) ≡ k - 1 + 1 = eqb-true _ _ (every_at (λ i. eqb (item_number (with_number (i + 1))) (i + 1)) (k - 1) 26 own_place (omega arith)) in
     rw e at is
+
+-- so the first of items that are the paper's is the number of a refusal
+abbrev pub in_paper : List Item → Bool
+in_paper [] = true
+in_paper (item k applies ∷ l) = leb k 26 && in_paper l
+
+first_low : (l : List Item) → in_paper l ≡ true → first_of l ≤ 26
+unfolding first_of
+first_low [] h = omega arith
+first_low (item k true ∷ l) h = let e = and_split (leb k 26) (in_paper l) h in leb-true _ _ e.0
+first_low (item k false ∷ l) h = let e = and_split (leb k 26) (in_paper l) h in first_low l e.1
+
+pub first_back : (l : List Item) → in_paper l ≡ true → first_of l ≢ 0 → item_number (with_number (first_of l)) ≡ first_of l
+first_back l h n = let low = first_low l h in number_back (first_of l) (omega arith) low
 
 -- ---- an answer from the number in it
 

@@ -1,5 +1,6 @@
 -- `advance_ready` tests the work numbers before the position, and then fills from there. Assumes nothing.
-use mathlib.Core.Path.{sym, ◌∙◌}
+use mathlib.Core.Path.{◌≡◌, sym, ◌∙◌}
+use Prim.Native.Nat.{ℕ}
 use Rattle.foundations.specs.Tests.{passed}
 use Rattle.job_items.specs.Items.{early_passed, advance_work_lem, advance_none}
 use Rattle.jobs.specs.Outcomes.{advance_refused_as, advance_accepted_as}
@@ -20,8 +21,11 @@ work_ok-fine-requires-clause-position_bound c =
 
 pub returns-then-not-fine : goal.returns-then-not-fine
 returns-then-not-fine c =
-    let a = c.args in
-    advance_refused_as a.job a.on.now.table.now a.on.now.recorded.now a.on.now.found.now a.work.now a.budget 16 (sym (advance_work_lem a.on.now.table.now a.on.now.recorded.now a.on.now.found.now a.work.now a.job c.requires (sym c.work_ok-fine.ensures ∙ c.if-not-fine.true))) (omega arith)
+    let item = advance_work_lem _ _ _ _ _ c.requires (sym c.work_ok-fine.ensures ∙ c.if-not-fine.true) in
+    record { answers = advance_refused_as _ _ _ _ _ c.args.budget _ (sym item) (λ z. some (sym item ∙ z)); within = tt }
+  where
+    some : ◌≡◌ {A = ℕ} 16 0 → ⊥
+    some e = omega arith
 
 pub slice_of-count-requires : goal.slice_of-count-requires
 slice_of-count-requires c =
@@ -41,7 +45,9 @@ fill-requires-clause-count_bound c =
     omega arith
 
 pub returns : goal.returns
-returns c =
-    let a = c.args in
-    advance_accepted_as a.job a.on.now.table.now a.on.now.recorded.now a.on.now.found.now a.work.now a.budget _ _ _ c.moved.ensures c.slice_of-count.ensures.0
-    (advance_none a.on.now.table.now a.on.now.recorded.now a.on.now.found.now a.work.now a.job c.requires (passed _ _ c.work_ok-fine.ensures (ap not c.if-not-fine.false))) c.fill.ensures
+returns c = record {
+  answers =
+      advance_accepted_as _ _ _ _ _ c.args.budget _ _ c.slice_of-count.ensures.0
+      (advance_none _ _ _ _ _ c.requires (passed _ _ c.work_ok-fine.ensures (ap not c.if-not-fine.false))) c.fill.ensures;
+  within = c.slice_of-count.ensures.1;
+}

@@ -1,34 +1,22 @@
 -- `finish` refuses by the first of the items 1 to 15, 25 and 26 that applies, or makes the plan and goes on. Assumes nothing.
+use mathlib.Core.Path.{sym, ◌∙◌}
 use Rattle.formats.specs.Inputs.{input_sound}
-use mathlib.Core.Path.{◌≡◌, refl, sym, ap, ◌∙◌}
-use Rattle.model.specs.declared.MatchAnswer.TheVariants.{Refused}
-use Rattle.model.specs.Calls.{input_item}
-use Rattle.one_call.specs.Answers.{refused_number, refused_weight}
-use Rattle.job_items.specs.Items.{early_item, early_passed, finish_early}
-use borrow.Author.Rules.{rules}
+use Rattle.model.proofs.Refusals.{sent_on, number_some}
+use Rattle.one_call.specs.Answers.{refusal_made}
+use Rattle.job_items.specs.Items.{early_passed, finish_early}
 use Rattle.jobs.proofs.finish.Goals as goal
 
-pub returns-then-item-ne0 : goal.returns-then-item-ne0
-returns-then-item-ne0 c =
-    let a = c.args in
-    let e = c.early_item-item.ensures in
-    let q = e ∙ sym (finish_early a.table.now a.recorded.now a.found.now a.work.now a.job a.mapping.now (λ z. c.if-item-ne0.true (e ∙ z))) in
-    record { refused = λ n. record { given = ap Refused q; number = refused_number (ap Refused q); weighs = refused_weight (ap Refused q); work_kept = refl; mapping_kept = refl }; finished = λ z. absurd (c.if-item-ne0.true (q ∙ z)) }
+pub returns-in_err-early_item : goal.returns-in_err-early_item
+returns-in_err-early_item c =
+    let is = sent_on _ _ c.from_residual.ensures.1 c.in_err-early_item.ensures (finish_early _ _ _ _ _ c.args.mapping.now) in
+    let first = finish_early _ _ _ _ _ c.args.mapping.now (λ z. number_some c.in_err-early_item.field-0.0 (c.in_err-early_item.ensures ∙ z)) in
+    record { refused = refusal_made _ _ _ is; finished = λ z. absurd (number_some c.in_err-early_item.field-0.0 (c.in_err-early_item.ensures ∙ sym first ∙ z)) }
 
 pub make-requires-clause-sound : goal.make-requires-clause-sound
-make-requires-clause-sound c =
-    let zero : let a = c.args in early_item a.job a.table.now a.recorded.now a.found.now a.work.now ≡ 0 = let z : c.early_item-item.result ≡ 0 = search rules in sym c.early_item-item.ensures ∙ z in
-    let passing : let a = c.args in input_item a.table.now a.recorded.now a.found.now ≡ 0 = let a = c.args in (early_passed a.table.now a.recorded.now a.found.now a.work.now a.job (zero)).0 in
-    (input_sound _ _ _ passing).0
+make-requires-clause-sound c = (input_sound _ _ _ (early_passed _ _ _ _ _ (sym c.in_ok-early_item.ensures)).0).0
 
 pub make-requires-clause-sound_2 : goal.make-requires-clause-sound_2
-make-requires-clause-sound_2 c =
-    let zero : let a = c.args in early_item a.job a.table.now a.recorded.now a.found.now a.work.now ≡ 0 = let z : c.early_item-item.result ≡ 0 = search rules in sym c.early_item-item.ensures ∙ z in
-    let passing : let a = c.args in input_item a.table.now a.recorded.now a.found.now ≡ 0 = let a = c.args in (early_passed a.table.now a.recorded.now a.found.now a.work.now a.job (zero)).0 in
-    (input_sound _ _ _ passing).1
+make-requires-clause-sound_2 c = (input_sound _ _ _ (early_passed _ _ _ _ _ (sym c.in_ok-early_item.ensures)).0).1
 
 pub invariant_of-on : goal.invariant_of-on
-invariant_of-on c =
-    let zero : let a = c.args in early_item a.job a.table.now a.recorded.now a.found.now a.work.now ≡ 0 = let z : c.early_item-item.result ≡ 0 = search rules in sym c.early_item-item.ensures ∙ z in
-    let passing : let a = c.args in input_item a.table.now a.recorded.now a.found.now ≡ 0 = let a = c.args in (early_passed a.table.now a.recorded.now a.found.now a.work.now a.job (zero)).0 in
-    record { ready = record { passes = passing; planned = c.make.ensures } }
+invariant_of-on c = record { ready = record { passes = (early_passed _ _ _ _ _ (sym c.in_ok-early_item.ensures)).0; planned = c.make.ensures } }
