@@ -12,12 +12,12 @@ ghost use Rattle.console.specs.Room.{PartsLeave};
 use crate::show::{Partner, Told};
 use formats::bytes::byte_or_zero;
 use formats::split::{Parts, split};
-use model::MatchAnswer;
+use model::refusal::Refusal;
 use one_call::match_trees;
 use std::io;
 
 // The match of the three parts of an input.
-fn match_input(input: &[u8], work: &mut [i32], mapping: &mut [u8]) -> MatchAnswer
+fn match_input(input: &[u8], work: &mut [i32], mapping: &mut [u8]) -> Result<i32, Refusal>
     ensures { MatchCall (table_part input.now) (recorded_part input.now) (found_part input.now) work.old mapping.old work.new mapping.new result }
 {
     let Parts {
@@ -57,7 +57,7 @@ pub fn print_match(
     let answer = match_input(input, work, mapping);
     println!(rt; "{}", Told(answer))?;
     match answer {
-        MatchAnswer::Found(_) => print_partners(rt, &mapping[..recorded_count(input)]),
-        MatchAnswer::Refused(_) => Ok(()),
+        Ok(_) => print_partners(rt, &mapping[..recorded_count(input)]),
+        Err(_) => Ok(()),
     }
 }

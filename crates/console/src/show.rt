@@ -2,12 +2,13 @@
 ghost use Rattle.std.specs.Prelude.{Some};
 ghost use Rattle.console.specs.Show.{told, partner_text};
 
-use model::{Limits, MatchAnswer};
+use model::Limits;
+use model::refusal::Refusal;
 use std::fmt;
 
 // The answer of a match as it is printed: the weight, or the number of the item that refuses it.
 #[derive(Clone, Copy)]
-pub struct Told(pub MatchAnswer);
+pub struct Told(pub Result<i32, Refusal>);
 
 // A recorded vertex's partner as it is printed: its number, or a hyphen.
 #[derive(Clone, Copy)]
@@ -18,8 +19,8 @@ impl fmt::Display for Told {
 
     fn fmt<W: fmt::Write>(&self, f: &mut fmt::Formatter<W>) -> fmt::Result {
         match self.0 {
-            MatchAnswer::Found(weight) => write!(f, "weight {weight}"),
-            MatchAnswer::Refused(item) => write!(f, "refused {item}"),
+            Ok(weight) => write!(f, "weight {weight}"),
+            Err(refusal) => write!(f, "refused {refusal}"),
         }
     }
 }

@@ -4,20 +4,19 @@
 
 use case_lines::Lines;
 use formats::table::table_item;
-use formats::tree::{found_item, tree_item};
+use formats::tree::tree_item;
+use model::refusal::{Refusal, refusal_in};
 use reading::read_full;
 use std::io;
 
 // What the readers say of the bytes under a line's word.
 fn print_item(rt: &impl Print, word: &[u8], bytes: &[u8]) -> io::Result<()> {
     if word.starts_with(b"t") {
-        println!(rt; ": {}", table_item(bytes))
+        println!(rt; ": {}", refusal_in(table_item(bytes)))
     } else {
-        println!(rt;
-            ": {}, found {}",
-            tree_item(bytes, 2, 1),
-            found_item(bytes, 2, 1)
-        )
+        let tree = tree_item(bytes, 2, 1);
+        let recorded = refusal_in(tree.map_err(Refusal::Recorded));
+        println!(rt; ": {recorded}, found {}", refusal_in(tree.map_err(Refusal::Found)))
     }
 }
 

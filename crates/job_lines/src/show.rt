@@ -1,7 +1,8 @@
 //! What is printed of a step.
 use crate::memory::Memory;
 use console::show::{Partner, Told};
-use model::{AdvanceAnswer, JobRecord, MatchAnswer, StartAnswer};
+use model::JobRecord;
+use model::refusal::Refusal;
 use std::{fmt, io};
 
 // A job record as it is printed.
@@ -24,26 +25,26 @@ impl fmt::Display for Record {
 
 // The answer of a start as it is printed.
 #[derive(Clone, Copy)]
-pub struct Started(pub StartAnswer);
+pub struct Started(pub Result<(), Refusal>);
 
 impl fmt::Display for Started {
     fn fmt<W: fmt::Write>(&self, f: &mut fmt::Formatter<W>) -> fmt::Result {
         match self.0 {
-            StartAnswer::Started => f.write_str("started"),
-            StartAnswer::Refused(item) => write!(f, "refused {item}"),
+            Ok(()) => f.write_str("started"),
+            Err(refusal) => write!(f, "refused {refusal}"),
         }
     }
 }
 
 // The answer of an advance as it is printed.
 #[derive(Clone, Copy)]
-pub struct Advanced(pub AdvanceAnswer);
+pub struct Advanced(pub Result<u32, Refusal>);
 
 impl fmt::Display for Advanced {
     fn fmt<W: fmt::Write>(&self, f: &mut fmt::Formatter<W>) -> fmt::Result {
         match self.0 {
-            AdvanceAnswer::Advanced(solved) => write!(f, "solved {solved}"),
-            AdvanceAnswer::Refused(item) => write!(f, "refused {item}"),
+            Ok(solved) => write!(f, "solved {solved}"),
+            Err(refusal) => write!(f, "refused {refusal}"),
         }
     }
 }
@@ -102,8 +103,8 @@ pub struct Slices {
 // What a job in slices answers, against the match in one call, which left its work numbers in the copy.
 pub fn print_job(
     rt: &impl Print,
-    answer: MatchAnswer,
-    whole: MatchAnswer,
+    answer: Result<i32, Refusal>,
+    whole: Result<i32, Refusal>,
     run: Slices,
     memory: &Memory,
 ) -> io::Result<()> {

@@ -3,11 +3,12 @@ use formats::split::Parts;
 use job_lines::memory::Memory;
 use job_lines::show::Slices;
 use jobs::{advance_core, start_core};
-use model::{AdvanceAnswer, JobRecord, Limits, MatchAnswer};
+use model::refusal::Refusal;
+use model::{JobRecord, Limits};
 use one_call::match_trees;
 
 // The match in one call, over fresh work numbers, which become the copy; the mapping buffer is cleared after it.
-pub(crate) fn match_whole(parts: Parts<'_>, memory: &mut Memory) -> MatchAnswer {
+pub(crate) fn match_whole(parts: Parts<'_>, memory: &mut Memory) -> Result<i32, Refusal> {
     memory.clear_kept();
     let answer = match_trees(
         parts.table,
@@ -35,10 +36,7 @@ fn advance(
         budget,
         &mut memory.work,
     );
-    let solved = match out.answer {
-        AdvanceAnswer::Advanced(count) => count != 0,
-        AdvanceAnswer::Refused(_) => false,
-    };
+    let solved = out.answer.is_ok_and(|count| count != 0);
     (out.job, solved)
 }
 

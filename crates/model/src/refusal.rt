@@ -1,5 +1,5 @@
 //! Why a call is turned down: the papers' items 1 to 26 by name. Their numbers are in specs/Refusals.antt, as `item_number`.
-ghost use Rattle.std.specs.Prelude.{◌≡◌, ◌≤◌};
+ghost use Rattle.std.specs.Prelude.{◌≡◌, ◌≤◌, Some, decimal};
 ghost use Rattle.model.specs.Refusals.{item_number, tree_number, refusal_in};
 
 use std::fmt;
@@ -116,6 +116,8 @@ impl From<Refusal> for u32 {
 
 // "A refusal gives its number only."
 impl fmt::Display for Refusal {
+    ghost output = { λ e. Some (decimal (item_number e)) };
+
     fn fmt<W: fmt::Write>(&self, f: &mut fmt::Formatter<W>) -> fmt::Result {
         write!(f, "{}", self.number())
     }

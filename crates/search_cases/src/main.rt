@@ -68,10 +68,10 @@ fn print_counts(rt: &impl Print, plant: Parts<'_>, counts: &Counts, t: Tally) ->
 fn run_plant(rt: &impl Print, input: &[u8], work: &mut [i32]) -> io::Result<()> {
     let plant = split(input);
     let mut counts = [0u64; Limits::PAIRS + 1];
-    let item = count_searches(plant.table, plant.recorded, plant.found, work, &mut counts);
+    let answer = count_searches(plant.table, plant.recorded, plant.found, work, &mut counts);
     let t = tally_searches(plant.table, plant.recorded, plant.found, work);
-    if item != 0 {
-        return println!(rt; "refused {item}");
+    if let Err(refusal) = answer {
+        return println!(rt; "refused {refusal}");
     }
     print_counts(rt, plant, &counts, t)
 }
