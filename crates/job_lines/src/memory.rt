@@ -1,4 +1,6 @@
 //! The buffers of a run: what they are filled with, and what a call changed in them.
+ghost use Rattle.std.specs.Prelude.{◌≡◌, ◌<◌, length, replicate, slice_set};
+
 use model::Limits;
 
 // What fills fresh buffers: a number that is no value and that item 16 refuses, a byte that is no partner.
@@ -31,25 +33,40 @@ impl Memory {
         }
     }
 
-    pub fn clear_work(&mut self) {
+    pub fn clear_work(&mut self)
+        ensures cleared { self.new.work ≡ replicate (length self.old.work) NUMBER }
+        ensures rest { (self.new.kept ≡ self.old.kept) × (self.new.mapping ≡ self.old.mapping) }
+    {
         self.work.fill(NUMBER);
     }
 
-    pub fn clear_kept(&mut self) {
+    pub fn clear_kept(&mut self)
+        ensures cleared { self.new.kept ≡ replicate (length self.old.kept) NUMBER }
+        ensures rest { (self.new.work ≡ self.old.work) × (self.new.mapping ≡ self.old.mapping) }
+    {
         self.kept.fill(NUMBER);
     }
 
-    pub fn clear_mapping(&mut self) {
+    pub fn clear_mapping(&mut self)
+        ensures cleared { self.new.mapping ≡ replicate (length self.old.mapping) BYTE }
+        ensures rest { (self.new.work ≡ self.old.work) × (self.new.kept ≡ self.old.kept) }
+    {
         self.mapping.fill(BYTE);
     }
 
     // Copies the work numbers.
-    pub fn keep(&mut self) {
+    pub fn keep(&mut self)
+        ensures copied { self.new.kept ≡ self.old.work }
+        ensures rest { (self.new.work ≡ self.old.work) × (self.new.mapping ≡ self.old.mapping) }
+    {
         self.kept = self.work;
     }
 
     // Writes a work number where there is one.
-    pub fn put(&mut self, at: usize, x: i32) {
+    pub fn put(&mut self, at: usize, x: i32)
+        ensures written { at < length self.old.work → self.new.work ≡ slice_set self.old.work at x }
+        ensures rest { (self.new.kept ≡ self.old.kept) × (self.new.mapping ≡ self.old.mapping) }
+    {
         if at < Limits::SUBPROBLEMS {
             self.work[at] = x;
         }

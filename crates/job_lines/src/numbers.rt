@@ -1,8 +1,13 @@
 //! Numbers of four bytes, low byte first, in the bytes of a step.
+ghost use Rattle.std.specs.Prelude.{◌≡◌, ◌+◌, [], ◌∷◌};
+ghost use Rattle.model.specs.Bytes.{byte_at, word_at};
+
 use formats::bytes::byte_or_zero;
 
 // The four bytes from `at` on, zeros past the end.
-fn four_at(s: &[u8], at: usize) -> [u8; 4] {
+fn four_at(s: &[u8], at: usize) -> [u8; 4]
+    ensures { result ≡ byte_at s.now at ∷ byte_at s.now (at + 1) ∷ byte_at s.now (at + 2) ∷ byte_at s.now (at + 3) ∷ [] }
+{
     let rest = s.get(at..).unwrap_or(&[]);
     [
         byte_or_zero(rest, 0),
@@ -12,7 +17,9 @@ fn four_at(s: &[u8], at: usize) -> [u8; 4] {
     ]
 }
 
-pub fn unsigned_at(s: &[u8], at: usize) -> u32 {
+pub fn unsigned_at(s: &[u8], at: usize) -> u32
+    ensures { result ≡ word_at s.now at }
+{
     u32::from_le_bytes(four_at(s, at))
 }
 
