@@ -1,6 +1,7 @@
 -- A record and the front of a certificate from the bytes that were stored, and that each depends on its own bytes only. Assumes nothing.
-use Rattle.std.specs.Prelude.{◌≡◌, List, ℕ, ◌+◌, ◌*◌, ◌≤◌, ◌<◌, length, set, ℤ}
-use Rattle.std.proofs.Common.{sym, ◌∙◌, subst, ⊎_elim, arith, not-suc-le-zero, length-set, get_or-set_same, get_or-set_other}
+use Rattle.std.specs.Prelude.{◌≡◌, List, ℕ, ◌+◌, ◌*◌, ◌≤◌, ◌<◌, length, set, take, ℤ}
+use Rattle.std.proofs.Common.{sym, ◌∙◌, subst, ⊎_elim, arith, not-suc-le-zero, length-set, length-take, get_or-take, get_or-set_same, get_or-set_other}
+use Rattle.std.proofs.Math.Nat.{min-eq_left}
 use Rattle.std.proofs.Math.Path.{ap}
 use Rattle.std.proofs.Math.ListN.{get_or}
 use Rattle.std.proofs.Math.IntN.{pos}
@@ -18,6 +19,10 @@ use Rattle.put.specs.Kept.{Kept, Alike, alike_byte, alike_mark, alike_number}
 use Rattle.put.specs.Puts.{Fit, RecordPut}
 use Rattle.put.specs.Front.{FrontPut}
 
+-- as many as are taken
+pub front_long : (n : ℕ) (x : List ℕ) → n ≤ length x → length (take n x) ≡ n
+front_long n x h = simp length-take (min-eq_left h)
+
 -- ---- the front
 
 pub front_left : {r f : List ℕ} {w : ℤ} {p z z' : List ℕ} → FrontPut (count r) (count f) w p z z' → FrontLeft r f z' p w
@@ -26,6 +31,13 @@ front_left F = record { head = F.head; n_is = F.n_is; m_is = F.m_is; weighs = F.
 pub front_as : {n m n' m' : ℕ} {v w : ℤ} {p z z' : List ℕ} → n ≡ n' → m ≡ m' → v ≡ w → FrontPut n m v p z z' → FrontPut n' m' w p z z'
 front_as {n} {m} {n'} {m'} {v} {w} {p} {z} {z'} a b c F =
     subst (λ (x : ℕ). FrontPut x m' w p z z') a (subst (λ (x : ℕ). FrontPut n x w p z z') b (subst (λ (x : ℤ). FrontPut n m x p z z') c F))
+
+-- of which the partners are the front of a row
+pub front_part : {n m : ℕ} {w : ℤ} {p z z' : List ℕ} → n ≤ length p → FrontPut (length (take n p)) m w (take n p) z z' → FrontPut n m w p z z'
+front_part {n} {p = p} h F =
+    let e = front_long n p h in
+    let G = rw e at F in
+    record { head = G.head; n_is = G.n_is; m_is = G.m_is; weighs = G.weighs; marks = G.marks; partners = λ u b. G.partners u b ∙ get_or-take n p u 0 b; kept = G.kept }
 
 pub front_weighs : {r f : List ℕ} {v w : ℤ} {p z : List ℕ} → v ≡ w → FrontLeft r f z p v → FrontLeft r f z p w
 front_weighs e F = record { head = F.head; n_is = F.n_is; m_is = F.m_is; weighs = F.weighs ∙ e; marks = F.marks; partners = F.partners }
@@ -105,8 +117,43 @@ module _ {y x : List ℕ} {k d q : ℕ} (F : OneFits y x k d q) where
       let b = F.degree in
       record { few = omega arith; low = λ j h. rw (R.get j h) (F.neighbour_low (column_in q j) (F.inside j (omega arith))) }
 
+-- a record whose row of others is the front of a row
+pub record_part : {here : ℕ} {w : ℤ} {y : List ℕ} {k : ℕ} {row : List ℕ} {l : ℕ} {z z' : List ℕ} → l ≤ length row → RecordPut here w y k (take l row) (length (take l row)) z z' → RecordPut here w y k row l z z'
+record_part {row = row} {l = l} h B =
+    let e = front_long l row h in
+    let C = rw e at B in
+    record { mark = C.mark; value = C.value; of_child = C.of_child; of_other = λ j b. C.of_other j b ∙ ap pos (get_or-take l row j 0 b); kept = C.kept }
+
 pub one_put : {here l : ℕ} {v w : ℤ} {y : List ℕ} {k : ℕ} {x row : List ℕ} {d q : ℕ} {z z' : List ℕ} {next : ℕ} → l ≡ others_of d q → v ≡ w → next ≡ here + subproblem_length k l → OthersRow l q x row → RecordPut here v y k row l z z' → OnePut here w y k x d q z z' next
 one_put {row = row} e g n R B = record { ends = rw e at n; row = row; others_in = rw e at R; stored = rw (e, g) at B }
+
+-- from the first k and the first d alone
+module _ {y x : List ℕ} {k d q : ℕ} (ky : k ≤ length y) (dx : d ≤ length x) where
+  pub fits_part : OneFits y x k d q → OneFits (take k y) (take d x) (length (take k y)) (length (take d x)) q
+  fits_part F = rw (front_long k y ky, front_long d x dx) (record {
+    choice = F.choice;
+    degree = F.degree;
+    few = F.few;
+    inside = F.inside;
+    child_low = λ i h. rw (get_or-take k y i 0 h) (F.child_low i h);
+    neighbour_low = λ j h. rw (get_or-take d x j 0 h) (F.neighbour_low j h);
+  })
+
+  pub one_part : {here : ℕ} {w : ℤ} {z z' : List ℕ} {next : ℕ} → OneFits y x k d q → OnePut here w (take k y) (length (take k y)) (take d x) (length (take d x)) q z z' next → OnePut here w y k x d q z z' next
+  one_part F B =
+      let C = rw (front_long k y ky, front_long d x dx) at B in
+      record {
+        ends = C.ends;
+        row = C.row;
+        others_in = record { long = C.others_in.long; get = λ j h. C.others_in.get j h ∙ get_or-take d x (column_in q j) 0 (F.inside j h) };
+        stored = record {
+          mark = C.stored.mark;
+          value = C.stored.value;
+          of_child = λ i h. C.stored.of_child i h ∙ ap pos (get_or-take k y i 0 h);
+          of_other = C.stored.of_other;
+          kept = C.stored.kept;
+        };
+      }
 
 -- the record that was stored for subproblem k
 module _ {table r f : List ℕ} {work : List ℤ} {z z' : List ℕ} {k u v q s here next : ℕ} {w : ℤ} {y x : List ℕ} {c d : ℕ}

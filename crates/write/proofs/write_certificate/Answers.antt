@@ -8,10 +8,8 @@ use Rattle.model.specs.Order.{subproblems}
 use Rattle.model.specs.Calls.{input_item}
 use Rattle.model.specs.Certificate.{certificate_length}
 use Rattle.model.specs.Jobs.{start_item}
-use Rattle.trees.specs.Accepted.{whole}
 use Rattle.plan.specs.Plan.{Ready}
-use Rattle.plan.specs.Numbers.{ready_recorded}
-use Rattle.records.specs.Places.{ready_inputs, inputs_few, inputs_length, places_end}
+use Rattle.records.specs.Places.{ready_inputs, inputs_length, places_end}
 use Rattle.job_items.specs.Items.{start_passed}
 use Rattle.write.specs.Theorems.{refused_number, refused_length, written_number, written_length}
 use Rattle.write.specs.Items.{write_start, write_room, write_none}
@@ -30,39 +28,30 @@ returns-then-item-ne0 c =
       written = λ z. absurd (c.if-item-ne0.true (e ∙ sym w ∙ z));
     }
 
-pub make-requires : goal.make-requires
-make-requires c =
+pub make-requires-clause-sound : goal.make-requires-clause-sound
+make-requires-clause-sound c =
     let zero : let a = c.args in start_item a.table.now a.recorded.now a.found.now a.work.now ≡ 0 = let z : c.start_item-item.result ≡ 0 = search rules in sym c.start_item-item.ensures ∙ z in
     let passed : let a = c.args in (input_item a.table.now a.recorded.now a.found.now ≡ 0) × (subproblems a.recorded.now a.found.now ≤ length a.work.now) = let a = c.args in start_passed a.table.now a.recorded.now a.found.now a.work.now (zero) in
-    record { plan_len = refl; sound = (input_sound _ _ _ (passed).0).0; sound_2 = (input_sound _ _ _ (passed).0).1 }
+    (input_sound _ _ _ passed.0).0
 
-pub places_of-requires : goal.places_of-requires
-places_of-requires c =
+pub make-requires-clause-sound_2 : goal.make-requires-clause-sound_2
+make-requires-clause-sound_2 c =
     let zero : let a = c.args in start_item a.table.now a.recorded.now a.found.now a.work.now ≡ 0 = let z : c.start_item-item.result ≡ 0 = search rules in sym c.start_item-item.ensures ∙ z in
     let passed : let a = c.args in (input_item a.table.now a.recorded.now a.found.now ≡ 0) × (subproblems a.recorded.now a.found.now ≤ length a.work.now) = let a = c.args in start_passed a.table.now a.recorded.now a.found.now a.work.now (zero) in
-    let ready : let a = c.args in Ready a.table.now a.recorded.now a.found.now c.make.new.plan = record { passes = (passed).0; planned = c.make.ensures } in
-    record { p_len = refl; inputs = ready_inputs (ready) }
+    (input_sound _ _ _ passed.0).1
 
-pub vertex_count-requires : goal.vertex_count-requires
-vertex_count-requires c =
+pub invariant_of-on : goal.invariant_of-on
+invariant_of-on c =
     let zero : let a = c.args in start_item a.table.now a.recorded.now a.found.now a.work.now ≡ 0 = let z : c.start_item-item.result ≡ 0 = search rules in sym c.start_item-item.ensures ∙ z in
     let passed : let a = c.args in (input_item a.table.now a.recorded.now a.found.now ≡ 0) × (subproblems a.recorded.now a.found.now ≤ length a.work.now) = let a = c.args in start_passed a.table.now a.recorded.now a.found.now a.work.now (zero) in
-    let ready : let a = c.args in Ready a.table.now a.recorded.now a.found.now c.make.new.plan = record { passes = (passed).0; planned = c.make.ensures } in
-    whole (ready_recorded (ready)).passed.ends
-
-pub begin-l-requires : goal.begin-l-requires
-begin-l-requires c =
-    let zero : let a = c.args in start_item a.table.now a.recorded.now a.found.now a.work.now ≡ 0 = let z : c.start_item-item.result ≡ 0 = search rules in sym c.start_item-item.ensures ∙ z in
-    let passed : let a = c.args in (input_item a.table.now a.recorded.now a.found.now ≡ 0) × (subproblems a.recorded.now a.found.now ≤ length a.work.now) = let a = c.args in start_passed a.table.now a.recorded.now a.found.now a.work.now (zero) in
-    let ready : let a = c.args in Ready a.table.now a.recorded.now a.found.now c.make.new.plan = record { passes = (passed).0; planned = c.make.ensures } in
-    omega (arith, c.vertex_count.ensures, (inputs_few (ready_inputs (ready))).0)
+    record { ready = record { passes = passed.0; planned = c.make.ensures } }
 
 pub returns-then-certificate-l : goal.returns-then-certificate-l
 returns-then-certificate-l c =
     let zero : let a = c.args in start_item a.table.now a.recorded.now a.found.now a.work.now ≡ 0 = let z : c.start_item-item.result ≡ 0 = search rules in sym c.start_item-item.ensures ∙ z in
     let passed : let a = c.args in (input_item a.table.now a.recorded.now a.found.now ≡ 0) × (subproblems a.recorded.now a.found.now ≤ length a.work.now) = let a = c.args in start_passed a.table.now a.recorded.now a.found.now a.work.now (zero) in
     let ready : let a = c.args in Ready a.table.now a.recorded.now a.found.now c.make.new.plan = record { passes = (passed).0; planned = c.make.ensures } in
-    let long : let a = c.args in c.begin-l.result ≡ certificate_length a.recorded.now a.found.now = rw c.vertex_count.ensures at c.begin-l.ensures ∙ places_end (ready_inputs (ready)) c.places_of.ensures.at in
+    let long : let a = c.args in c.begin-l.result ≡ certificate_length a.recorded.now a.found.now = rw c.n.ensures.value at c.begin-l.ensures ∙ places_end (ready_inputs (ready)) c.places_of.ensures.at in
     let a = c.args in
     let w = write_room a.table.now a.recorded.now a.found.now a.work.now a.certificate.now (zero) (let l = long in omega (arith, c.if-certificate-l.true)) in
     let g = ap Refused (sym w) in
@@ -71,20 +60,26 @@ returns-then-certificate-l c =
       written = λ z. absurd (let q = sym w ∙ z in omega (arith, q));
     }
 
-pub solve_and_write-requires : goal.solve_and_write-requires
-solve_and_write-requires c =
+pub solve_and_write-requires-clause-lent : goal.solve_and_write-requires-clause-lent
+solve_and_write-requires-clause-lent c =
+    let zero : let a = c.args in start_item a.table.now a.recorded.now a.found.now a.work.now ≡ 0 = let z : c.start_item-item.result ≡ 0 = search rules in sym c.start_item-item.ensures ∙ z in
+    let passed : let a = c.args in (input_item a.table.now a.recorded.now a.found.now ≡ 0) × (subproblems a.recorded.now a.found.now ≤ length a.work.now) = let a = c.args in start_passed a.table.now a.recorded.now a.found.now a.work.now (zero) in
+    record { enough = passed.1 }
+
+pub solve_and_write-requires-clause-found_in_bounds : goal.solve_and_write-requires-clause-found_in_bounds
+solve_and_write-requires-clause-found_in_bounds c =
     let zero : let a = c.args in start_item a.table.now a.recorded.now a.found.now a.work.now ≡ 0 = let z : c.start_item-item.result ≡ 0 = search rules in sym c.start_item-item.ensures ∙ z in
     let passed : let a = c.args in (input_item a.table.now a.recorded.now a.found.now ≡ 0) × (subproblems a.recorded.now a.found.now ≤ length a.work.now) = let a = c.args in start_passed a.table.now a.recorded.now a.found.now a.work.now (zero) in
     let ready : let a = c.args in Ready a.table.now a.recorded.now a.found.now c.make.new.plan = record { passes = (passed).0; planned = c.make.ensures } in
-    let long : let a = c.args in c.begin-l.result ≡ certificate_length a.recorded.now a.found.now = rw c.vertex_count.ensures at c.begin-l.ensures ∙ places_end (ready_inputs (ready)) c.places_of.ensures.at in
-    record { ready = ready; lent = record { enough = (passed).1 }; found_in_bounds = (let l = long in omega (arith, c.if-certificate-l.false)) }
+    let long : let a = c.args in c.begin-l.result ≡ certificate_length a.recorded.now a.found.now = rw c.n.ensures.value at c.begin-l.ensures ∙ places_end (ready_inputs (ready)) c.places_of.ensures.at in
+    let l = long in omega (arith, c.if-certificate-l.false)
 
 pub overflow_cast-length : goal.overflow_cast-length
 overflow_cast-length c =
     let zero : let a = c.args in start_item a.table.now a.recorded.now a.found.now a.work.now ≡ 0 = let z : c.start_item-item.result ≡ 0 = search rules in sym c.start_item-item.ensures ∙ z in
     let passed : let a = c.args in (input_item a.table.now a.recorded.now a.found.now ≡ 0) × (subproblems a.recorded.now a.found.now ≤ length a.work.now) = let a = c.args in start_passed a.table.now a.recorded.now a.found.now a.work.now (zero) in
     let ready : let a = c.args in Ready a.table.now a.recorded.now a.found.now c.make.new.plan = record { passes = (passed).0; planned = c.make.ensures } in
-    let long : let a = c.args in c.begin-l.result ≡ certificate_length a.recorded.now a.found.now = rw c.vertex_count.ensures at c.begin-l.ensures ∙ places_end (ready_inputs (ready)) c.places_of.ensures.at in
+    let long : let a = c.args in c.begin-l.result ≡ certificate_length a.recorded.now a.found.now = rw c.n.ensures.value at c.begin-l.ensures ∙ places_end (ready_inputs (ready)) c.places_of.ensures.at in
     omega (arith, long, inputs_length (ready_inputs (ready)))
 
 pub returns : goal.returns
@@ -92,7 +87,7 @@ returns c =
     let zero : let a = c.args in start_item a.table.now a.recorded.now a.found.now a.work.now ≡ 0 = let z : c.start_item-item.result ≡ 0 = search rules in sym c.start_item-item.ensures ∙ z in
     let passed : let a = c.args in (input_item a.table.now a.recorded.now a.found.now ≡ 0) × (subproblems a.recorded.now a.found.now ≤ length a.work.now) = let a = c.args in start_passed a.table.now a.recorded.now a.found.now a.work.now (zero) in
     let ready : let a = c.args in Ready a.table.now a.recorded.now a.found.now c.make.new.plan = record { passes = (passed).0; planned = c.make.ensures } in
-    let long : let a = c.args in c.begin-l.result ≡ certificate_length a.recorded.now a.found.now = rw c.vertex_count.ensures at c.begin-l.ensures ∙ places_end (ready_inputs (ready)) c.places_of.ensures.at in
+    let long : let a = c.args in c.begin-l.result ≡ certificate_length a.recorded.now a.found.now = rw c.n.ensures.value at c.begin-l.ensures ∙ places_end (ready_inputs (ready)) c.places_of.ensures.at in
     let a = c.args in
     let s = c.solve_and_write.ensures in
     let w = write_none a.table.now a.recorded.now a.found.now a.work.now a.certificate.now (zero) (let l = long in omega (arith, c.if-certificate-l.false)) in

@@ -1,9 +1,9 @@
 -- `gain_row` meets its contract. Assumes nothing.
-use Rattle.std.proofs.Common.{arith, ◌<◌, ◌≡◌, ◌∙◌, length}
+use Rattle.std.proofs.Common.{arith, ◌<◌, ◌∙◌, length}
 use Rattle.foundations.specs.Machine.{Same, back}
 use Rattle.model.specs.Graph.{neighbours}
 use Rattle.plan.specs.Numbers.{ready_accepted}
-use Rattle.plan.specs.Pairs.{row_none, row_more, pair_low, children_few, degree_few, degree_is, child_place_low, child_edge_low, edge_low, gain_is}
+use Rattle.plan.specs.Pairs.{row_more, pair_low, children_few, degree_few, degree_is, child_place_low, child_edge_low, edge_low, gain_is}
 use Rattle.check_records.specs.Gains.{behind_sits, behind_value}
 use Rattle.check_records.proofs.gains.gain_row.Goals as goal
 
@@ -22,9 +22,6 @@ child_edge-edge-requires c =
 
 pub degree-l-requires : goal.degree-l-requires
 degree-l-requires c = (pair_low c.args.sheet.now.on.now.ready c.requires.pair).1
-
-pub loop-j-init : goal.loop-j-init
-loop-j-init c = row_none _ _ _ c.requires.g_len
 
 pub neighbour-x-requires : goal.neighbour-x-requires
 neighbour-x-requires c =
@@ -86,8 +83,3 @@ loop-j-preserved c =
     (gain_is N c.requires.pair _ c.requires.i_in_bounds _ hj _ c.edge_pair.result c.value_in-y.result _ (rw (c.child_edge-edge.ensures, c.neighbour_edge.ensures) at c.edge_pair.ensures)
     (behind_value N c.requires.pair _ c.requires.i_in_bounds _ hj c.args.sheet.now.certificate.now c.value_in-y.result (rw (c.row-row.ensures.same, c.child_place.ensures, c.behind-b.ensures) at c.value_in-y.ensures))
     (rw (ea, ya) at c.gain_of-t.ensures)) c.gain_of-t.ensures.small
-
-pub returns : goal.returns
-returns c =
-    let e : c.loop-j.j ≡ c.degree-l.result = omega arith in
-    rw (e, c.degree-l.ensures ∙ degree_is c.args.sheet.now.on.now.ready c.requires.pair) at c.loop-j.invariant

@@ -8,15 +8,6 @@ use Rattle.check_records.proofs.gains.value_in.Goals as goal
 pub offset-requires : goal.offset-requires
 offset-requires c = (sits_choice (laid c.args.sheet.now.on.now.ready c.args.sheet.now.stand) c.requires.sits).0
 
-pub overflow_sub-q : goal.overflow_sub-q
-overflow_sub-q c =
-    let k = sits_choice (laid c.args.sheet.now.on.now.ready c.args.sheet.now.stand) c.requires.sits in omega (arith, k.1, c.offset.ensures)
-
-pub record_in-at-requires : goal.record_in-at-requires
-record_in-at-requires c =
-    let k = sits_choice (laid c.args.sheet.now.on.now.ready c.args.sheet.now.stand) c.requires.sits in
-    record { begins = c.requires.begins; v_bound = (c.requires.sits.low, rw c.offset.ensures k.2) }
-
 pub int32_at-requires : goal.int32_at-requires
 int32_at-requires c =
     let e = rw c.offset.ensures at c.record_in-at.ensures.0 in

@@ -1,5 +1,5 @@
 -- `greatest` meets its contract. Assumes nothing.
-use Rattle.std.proofs.Common.{arith, ◌≡◌}
+use Rattle.std.proofs.Common.{arith}
 use Rattle.check_records.specs.Greatest.{most_none, most_more, own_most}
 use Rattle.check_records.proofs.top.greatest.Goals as goal
 
@@ -10,8 +10,3 @@ pub loop-u-preserved : goal.loop-u-preserved
 loop-u-preserved c =
     let sheet = c.args.sheet.now in
     (most_more (own_most sheet.on.now.recorded.now sheet.on.now.found.now sheet.certificate.now) c.loop-u.u c.loop-u.all c.top_of_row-x.result c.max-all.result c.loop-u.invariant.0 c.top_of_row-x.ensures.0 c.max-all.ensures, omega (arith, c.max-all.ensures, c.top_of_row-x.ensures.1, c.loop-u.invariant.1))
-
-pub returns : goal.returns
-returns c =
-    let e : c.loop-u.u ≡ c.n-n.result = omega arith in
-    (rw (e, c.n-n.ensures.value) at c.loop-u.invariant.0, c.loop-u.invariant.1)

@@ -5,7 +5,7 @@ use Rattle.foundations.specs.Machine.{Same, back}
 use Rattle.model.specs.Certificate.{value_of}
 use Rattle.plan.specs.Pairs.{up_w}
 use Rattle.records.specs.Places.{laid, inputs_few}
-use Rattle.check_records.specs.Greatest.{most_none, most_more, own_most, place_low, own_sits, own_value}
+use Rattle.check_records.specs.Greatest.{most_none, most_more, own_most, place_low, own_value}
 use Rattle.check_records.proofs.top.top_of_row.Goals as goal
 
 pub place-requires : goal.place-requires
@@ -16,9 +16,6 @@ row-row-requires c = rw c.place.ensures (place_low (laid c.args.sheet.now.on.now
 
 pub loop-v-init : goal.loop-v-init
 loop-v-init c = (most_none _, omega arith)
-
-pub value_in-requires : goal.value_in-requires
-value_in-requires c = record { begins = c.row-row.ensures.begins; sits = own_sits (laid c.args.sheet.now.on.now.ready c.args.sheet.now.stand) _ _ (omega (arith, c.m-m.ensures.value)) c.offset.ensures }
 
 pub loop-v-preserved : goal.loop-v-preserved
 loop-v-preserved c =
