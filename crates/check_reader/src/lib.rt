@@ -9,6 +9,7 @@ ghost use Rattle.model.specs.Certificate.{subproblem_ok, check_of};
 ghost use Rattle.model.specs.Limits.{vertex_limit};
 ghost use Rattle.model.specs.Order.{subproblems};
 ghost use Rattle.model.specs.Tree.{count};
+ghost use Rattle.model.specs.Refusals.{refusal_in};
 ghost use Rattle.records.specs.Places.{PlacesTo};
 ghost use Rattle.check_front.specs.Marks.{AllRead};
 ghost use Rattle.check_reader.specs.Items.{records_item};
@@ -18,7 +19,8 @@ use check_front::weighing::mapping_item;
 use check_records::rules::{PairGains, rule_step};
 use check_records::top::is_greatest;
 use formats::inputs::input_item;
-use model::{Limits, Mapping};
+use model::refusal::refusal_in;
+use model::{Limits, Mapping, Refusal};
 use plan::Blocks;
 use plan::counts::subproblem_count;
 use plan::instance::Instance;
@@ -69,27 +71,27 @@ fn rules(sheet: &Sheet) -> bool
     reader.walk.ok
 }
 
-// The items 23 and 24, after those before them: the first that applies, 0 for none.
-fn records_item(sheet: &Sheet) -> u32
-    ensures { result ≡ records_item sheet.now.on.now.table.now sheet.now.on.now.recorded.now sheet.now.on.now.found.now sheet.now.certificate.now }
+// The items 23 and 24, after those before them: the first that applies.
+fn records_item(sheet: &Sheet) -> Result<(), Refusal>
+    ensures { refusal_in result ≡ records_item sheet.now.on.now.table.now sheet.now.on.now.recorded.now sheet.now.on.now.found.now sheet.now.certificate.now }
 {
     if !rules(sheet) {
-        return 23;
+        return Err(Refusal::CertificateRecord);
     }
     if !is_greatest(sheet) {
-        return 24;
+        return Err(Refusal::CertificateAnswer);
     }
-    0
+    Ok(())
 }
 
-// The items 20 to 24: the first that applies, 0 for none. The length is tested first, so that no read goes past the end: it is where the row after the last
+// The items 20 to 24: the first that applies. The length is tested first, so that no read goes past the end: it is where the row after the last
 // would begin.
-fn certificate_item(on: &Instance, places: &Places, certificate: &[u8]) -> u32
+fn certificate_item(on: &Instance, places: &Places, certificate: &[u8]) -> Result<(), Refusal>
     requires { PlacesTo on.now.recorded.now on.now.found.now (count on.now.recorded.now) places.now }
-    ensures { result ≡ check_of on.now.table.now on.now.recorded.now on.now.found.now certificate.now }
+    ensures { refusal_in result ≡ check_of on.now.table.now on.now.recorded.now on.now.found.now certificate.now }
 {
     if certificate.len() != begin(places, on.n()) {
-        return 20;
+        return Err(Refusal::CertificateShape);
     }
     let sheet = Sheet {
         on,
@@ -98,13 +100,33 @@ fn certificate_item(on: &Instance, places: &Places, certificate: &[u8]) -> u32
     };
     let mut partners = [Limits::NONE; Limits::ROWS];
     if !marks(&sheet, &mut partners) {
-        return 20;
+        return Err(Refusal::CertificateShape);
     }
-    let item = mapping_item(&sheet, &partners);
-    if item != 0 {
-        return item;
-    }
+    mapping_item(&sheet, &partners)?;
     records_item(&sheet)
+}
+
+// The first of all items of a check that applies.
+fn first_item(
+    table: &[u8],
+    recorded: &[u8],
+    found: &[u8],
+    certificate: &[u8],
+) -> Result<(), Refusal>
+    ensures { refusal_in result ≡ check_of table.now recorded.now found.now certificate.now }
+{
+    input_item(table, recorded, found)?;
+    let mut plan = [[0u8; Limits::PLACES]; Blocks::ALL];
+    make(&mut plan, recorded, found);
+    let on = Instance {
+        table,
+        recorded,
+        found,
+        plan: &plan,
+    };
+    let mut places = [[0u32; 2]; Limits::PREFIXES];
+    places_of(&mut places, &on);
+    certificate_item(&on, &places, certificate)
 }
 
 // Entry point.
@@ -118,19 +140,6 @@ pub extern "C" fn check_certificate(
 ) -> u32
     ensures { result ≡ check_of table.now recorded.now found.now certificate.now }
 {
-    let item = input_item(table, recorded, found);
-    if item != 0 {
-        return item as u32;
-    }
-    let mut plan = [[0u8; Limits::PLACES]; Blocks::ALL];
-    make(&mut plan, recorded, found);
-    let on = Instance {
-        table,
-        recorded,
-        found,
-        plan: &plan,
-    };
-    let mut places = [[0u32; 2]; Limits::PREFIXES];
-    places_of(&mut places, &on);
-    certificate_item(&on, &places, certificate)
+    let answer = first_item(table, recorded, found, certificate);
+    u32::from(refusal_in(answer))
 }

@@ -1,6 +1,7 @@
 -- `certificate_item` tests the items 20 to 24 in their order. Assumes nothing.
-use Rattle.std.proofs.Common.{rules, ◌≡◌, sym, ap, ◌∙◌, length, not}
+use Rattle.std.proofs.Common.{rules, ◌≡◌, refl, sym, ap, ◌∙◌, length, not}
 use Rattle.model.specs.Certificate.{certificate_length}
+use Rattle.model.proofs.Refusals.{sent_on}
 use Rattle.records.specs.Places.{begin_in, ready_inputs, places_end}
 use Rattle.check_reader.specs.Items.{item_length, item_shape, item_mapping, item_records}
 use Rattle.check_reader.proofs.certificate_item.Goals as goal
@@ -19,10 +20,11 @@ invariant_of-sheet c =
 pub returns-then-not-marks : goal.returns-then-not-marks
 returns-then-not-marks c = item_shape _ _ _ _ c.args.on.now.ready.passes c.marks.result c.marks.ensures.shaped (ap not c.if-not-marks.true)
 
-pub returns-then-item-ne0 : goal.returns-then-item-ne0
-returns-then-item-ne0 c = item_mapping _ _ _ _ c.args.on.now.ready.passes c.marks.result c.marks.ensures.shaped (ap not c.if-not-marks.false) _ c.mapping_item-item.ensures c.if-item-ne0.true
+pub returns-in_err-mapping_item : goal.returns-in_err-mapping_item
+returns-in_err-mapping_item c =
+    sent_on _ _ c.from_residual.ensures.1 c.in_err-mapping_item.ensures
+    (λ n. sym (item_mapping _ _ _ _ c.args.on.now.ready.passes c.marks.result c.marks.ensures.shaped (ap not c.if-not-marks.false) _ refl n))
 
 pub returns : goal.returns
 returns c =
-    let none : c.mapping_item-item.result ≡ 0 = search rules in
-    item_records _ _ _ _ c.args.on.now.ready.passes c.marks.result c.marks.ensures.shaped (ap not c.if-not-marks.false) (sym c.mapping_item-item.ensures ∙ none) _ c.records_item.ensures
+    item_records _ _ _ _ c.args.on.now.ready.passes c.marks.result c.marks.ensures.shaped (ap not c.if-not-marks.false) (sym c.in_ok-mapping_item.ensures) _ c.records_item.ensures
