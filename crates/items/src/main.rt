@@ -16,7 +16,10 @@ fn print_item(rt: &impl Print, word: &[u8], bytes: &[u8]) -> io::Result<()> {
     } else {
         let tree = tree_item(bytes, 2, 1);
         let recorded = refusal_in(tree.map_err(Refusal::Recorded));
-        println!(rt; ": {recorded}, found {}", refusal_in(tree.map_err(Refusal::Found)))
+        println!(rt;
+            ": {recorded}, found {}",
+            refusal_in(tree.map_err(Refusal::Found))
+        )
     }
 }
 
