@@ -59,13 +59,3 @@ impl<'a> Tree<'a> {
         !with_serials(self.bytes) || self.all_new()
     }
 }
-
-// The serial of vertex v, 0 for an unknown one, of the bytes and the count.
-pub fn serial_of(s: &[u8], n: usize, v: usize) -> u32
-    requires ends { Ends s.now n }
-    requires v_lt_n { v < n }
-    ensures { result ≡ serial s.now v }
-{
-    let tree = Tree { bytes: s, n };
-    tree.serial(v)
-}
