@@ -11,7 +11,7 @@ ghost use Rattle.trees.specs.Directions.{from_second, seen_table};
 ghost use Rattle.adjacency.specs.Insertion.{carried, put_in};
 ghost use Rattle.adjacency.specs.NeighbourSteps.{Once, edge_in};
 
-use formats::tree::{edge_label_at, end_a, end_b, vertex_count};
+use formats::tree::{Tree, vertex_count};
 use model::{Limits, PlaceTable, Row};
 
 // The greater is carried on, and `NONE` where the two are the same.
@@ -48,11 +48,12 @@ pub fn neighbour_table(s: &[u8]) -> PlaceTable
     ensures { result ≡ neighbour_table s.now }
 {
     let n = vertex_count(s);
+    let tree = Tree { bytes: s, n };
     let mut t = [[Limits::NONE; Limits::PLACES]; Limits::ROWS];
     let edges = n - 1;
     for j in 0..edges {
-        let a = end_a(s, n, j);
-        let b = end_b(s, n, j);
+        let a = tree.end_a(j);
+        let b = tree.end_b(j);
         let p = put_in(t[a as usize], b);
         t[a as usize] = p;
         let q = put_in(t[b as usize], a);
@@ -93,11 +94,12 @@ pub fn edge_table(t: &mut PlaceTable, s: &[u8], neighbours: &PlaceTable)
     ensures { t.new ≡ seen_table s.now }
 {
     let n = vertex_count(s);
+    let tree = Tree { bytes: s, n };
     let edges = n - 1;
     for j in 0..edges {
-        let a = end_a(s, n, j);
-        let b = end_b(s, n, j);
-        let l = edge_label_at(s, n, j);
+        let a = tree.end_a(j);
+        let b = tree.end_b(j);
+        let l = tree.edge_label(j);
         let c = from_second(l);
         let q = edge_in(t[b as usize], neighbours[b as usize], a, c);
         t[b as usize] = q;

@@ -52,11 +52,6 @@ pub record BlockIn (table : List ℕ) (b : Block) : Type 0 where
   pub inside : row_start b b.rows ≤ length table
   pub wide : column 0 b.rows ≤ b.row
 
--- the block b, which the table holds
-pub record BlockOf (table : List ℕ) (b r : Block) : Type 0 where
-  pub is : r ≡ b
-  pub held : BlockIn table r
-
 -- ---- a table that passes
 
 -- the head's numbers and the length are right

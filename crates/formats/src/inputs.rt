@@ -3,7 +3,7 @@ ghost use Rattle.std.specs.Prelude.{◌≡◌};
 ghost use Rattle.model.specs.Calls.{input_item};
 ghost use Rattle.model.specs.Refusals.{refusal_in};
 
-use crate::table::{edge_labels, table_item, vertex_labels};
+use crate::table::{Table, table_item};
 use crate::tree::tree_item;
 use model::Refusal;
 
@@ -12,8 +12,9 @@ pub fn input_item(table: &[u8], recorded: &[u8], found: &[u8]) -> Result<(), Ref
     ensures { refusal_in result ≡ input_item table.now recorded.now found.now }
 {
     table_item(table)?;
-    let k = vertex_labels(table);
-    let l = edge_labels(table);
+    let table = Table { bytes: table };
+    let k = table.vertex_labels();
+    let l = table.edge_labels();
     tree_item(recorded, k, l).map_err(Refusal::Recorded)?;
     tree_item(found, k, l).map_err(Refusal::Found)
 }

@@ -37,20 +37,28 @@ pub(crate) fn tree_size(s: &[u8], n: u8) -> usize
     tree_head_length() + vertex_size(s) * k + edge_length() * (k - 1)
 }
 
-// Where the record of vertex v starts.
-pub(crate) fn vertex_start(s: &[u8], n: usize, v: usize) -> usize
-    requires whole { Whole s.now n }
-    requires v_lt_n { v < n }
-    ensures { (result ≡ vertex_start s.now v) × (result + vertex_length ≤ length s.now) }
-{
-    tree_head_length() + vertex_size(s) * v
+// The bytes of a tree that has the right length for its number of vertices: as many vertex records, and one edge record fewer.
+#[derive(Clone, Copy)]
+pub(crate) struct Records<'a> {
+    pub(crate) bytes: &'a [u8],
+    pub(crate) n: usize,
+    pub(crate) ghost whole: { Whole bytes.now n },
 }
 
-// Where the record of edge j starts: the n - 1 edges are the last records, whatever the kind of those before them.
-pub(crate) fn edge_start(s: &[u8], n: usize, j: usize) -> usize
-    requires whole { Whole s.now n }
-    requires j_bound { j + 1 < n }
-    ensures { (result ≡ edge_start s.now n j) × (result + edge_length ≤ length s.now) }
-{
-    s.len() - edge_length() * (n - 1 - j)
+impl<'a> Records<'a> {
+    // Where the record of vertex v starts.
+    pub(crate) fn vertex_start(&self, v: usize) -> usize
+        requires v_lt_n { v < self.now.n }
+        ensures { (result ≡ vertex_start self.now.bytes.now v) × (result + vertex_length ≤ length self.now.bytes.now) }
+    {
+        tree_head_length() + vertex_size(self.bytes) * v
+    }
+
+    // Where the record of edge j starts: the n - 1 edges are the last records, whatever the kind of those before them.
+    pub(crate) fn edge_start(&self, j: usize) -> usize
+        requires j_bound { j + 1 < self.now.n }
+        ensures { (result ≡ edge_start self.now.bytes.now self.now.n j) × (result + edge_length ≤ length self.now.bytes.now) }
+    {
+        self.bytes.len() - edge_length() * (self.n - 1 - j)
+    }
 }

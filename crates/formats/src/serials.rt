@@ -5,34 +5,10 @@ ghost use Rattle.model.specs.Tree.{serial, serials_differ};
 ghost use Rattle.trees.specs.Accepted.{Ends};
 ghost use Rattle.formats.specs.Serials.{SerialsTo, new_in};
 
-use crate::places::{vertex_start, with_serials};
+use crate::places::with_serials;
+use crate::tree::Tree;
 use integers::word_at;
 use model::Limits;
-
-// The serial of vertex v, 0 for an unknown one.
-pub fn serial_of(s: &[u8], n: usize, v: usize) -> u32
-    requires ends { Ends s.now n }
-    requires v_lt_n { v < n }
-    ensures { result ≡ serial s.now v }
-{
-    if with_serials(s) {
-        word_at(s, vertex_start(s, n, v) + 3)
-    } else {
-        0
-    }
-}
-
-// The serials of all vertices.
-fn serials(s: &[u8], n: usize) -> [u32; Limits::ROWS]
-    requires { Ends s.now n }
-    ensures { SerialsTo s.now n result }
-{
-    let mut t = [0u32; Limits::ROWS];
-    for v in 0..n {
-        t[v] = serial_of(s, n, v);
-    }
-    t
-}
 
 // The serial of vertex v is that of no vertex before it, or unknown.
 fn is_new(serials: &[u32; Limits::ROWS], v: usize) -> bool
@@ -44,19 +20,42 @@ fn is_new(serials: &[u32; Limits::ROWS], v: usize) -> bool
     unknown || serials[..v].iter().all(|x| *x != own)
 }
 
-// No known serial stands twice in a tree with serials.
-fn all_new(s: &[u8], n: usize) -> bool
-    requires { Ends s.now n }
-    ensures { result ≡ serials_differ s.now n }
-{
-    let known = serials(s, n);
-    (0..n).all(|v| is_new(&known, v))
-}
+impl<'a> Tree<'a> {
+    // The serial of vertex v, 0 for an unknown one.
+    pub fn serial(&self, v: usize) -> u32
+        requires v_lt_n { v < self.now.n }
+        ensures { result ≡ serial self.now.bytes.now v }
+    {
+        if with_serials(self.bytes) {
+            word_at(self.bytes, self.records().vertex_start(v) + 3)
+        } else {
+            0
+        }
+    }
 
-// No known serial stands twice.
-pub(crate) fn do_serials_differ(s: &[u8], n: usize) -> bool
-    requires { Ends s.now n }
-    ensures { result ≡ serials_differ s.now n }
-{
-    !with_serials(s) || all_new(s, n)
+    // The serials of all vertices.
+    fn serials(&self) -> [u32; Limits::ROWS]
+        ensures { SerialsTo self.now.bytes.now self.now.n result }
+    {
+        let mut t = [0u32; Limits::ROWS];
+        for v in 0..self.n {
+            t[v] = self.serial(v);
+        }
+        t
+    }
+
+    // No known serial stands twice in a tree with serials.
+    fn all_new(&self) -> bool
+        ensures { result ≡ serials_differ self.now.bytes.now self.now.n }
+    {
+        let known = self.serials();
+        (0..self.n).all(|v| is_new(&known, v))
+    }
+
+    // No known serial stands twice.
+    pub(crate) fn do_serials_differ(&self) -> bool
+        ensures { result ≡ serials_differ self.now.bytes.now self.now.n }
+    {
+        !with_serials(self.bytes) || self.all_new()
+    }
 }

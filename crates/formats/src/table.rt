@@ -6,7 +6,7 @@ ghost use Rattle.model.specs.Bytes.{is_mark, int32_at};
 ghost use Rattle.model.specs.Refusals.{refusal_in};
 ghost use Rattle.model.specs.Weights.{weight_ok};
 ghost use Rattle.model.specs.Table.{vertex_labels, edge_labels, vertex_row, edge_row, column, table_sized, table_marked, row_ok, weights_ok, table_item};
-ghost use Rattle.formats.specs.Table.{EdgeRowsStart, table_size, vertex_block, edge_block, row_start, BlockOf, BlockIn, RowAt, TableSized};
+ghost use Rattle.formats.specs.Table.{EdgeRowsStart, table_size, vertex_block, edge_block, row_start, BlockIn, RowAt, TableSized};
 
 use lengths::{edge_row_length, table_head_length, vertex_row_length};
 use model::{Limits, Refusal};
@@ -47,84 +47,134 @@ fn is_sized(table: &[u8]) -> bool
     k_ok & (l_ok & (table.len() == table_size(k, l)))
 }
 
-// K, how many vertex labels there are.
-pub(crate) fn vertex_labels(table: &[u8]) -> u8
-    requires { TableSized table.now }
-    ensures { result ≡ vertex_labels table.now }
-{
-    table[2]
+// A table of the right head and length.
+#[derive(Clone, Copy)]
+pub(crate) struct Table<'a> {
+    pub(crate) bytes: &'a [u8],
+    pub(crate) ghost sized: { TableSized bytes.now },
 }
 
-// L, how many edge labels there are.
-pub(crate) fn edge_labels(table: &[u8]) -> u8
-    requires { TableSized table.now }
-    ensures { result ≡ edge_labels table.now }
-{
-    table[3]
-}
+impl<'a> Table<'a> {
+    // K, how many vertex labels there are.
+    pub(crate) fn vertex_labels(&self) -> u8
+        ensures { result ≡ vertex_labels self.now.bytes.now }
+    {
+        self.bytes[2]
+    }
 
-// The K vertex rows, which follow the head.
-fn vertex_block(table: &[u8]) -> Block
-    requires { TableSized table.now }
-    ensures { BlockOf table.now (vertex_block table.now) result }
-{
-    let k = vertex_labels(table);
-    Block {
-        start: table_head_length(),
-        rows: k,
-        row: vertex_row_length(k),
+    // L, how many edge labels there are.
+    pub(crate) fn edge_labels(&self) -> u8
+        ensures { result ≡ edge_labels self.now.bytes.now }
+    {
+        self.bytes[3]
+    }
+
+    // The K vertex rows, which follow the head.
+    fn vertex_rows(&self) -> Rows<'a>
+        ensures table { result.table.now ≡ self.now.bytes.now }
+        ensures block { result.block ≡ vertex_block self.now.bytes.now }
+    {
+        let k = self.vertex_labels();
+        let block = Block {
+            start: table_head_length(),
+            rows: k,
+            row: vertex_row_length(k),
+        };
+        Rows {
+            table: self.bytes,
+            block,
+        }
+    }
+
+    // The L edge rows, which follow the vertex rows.
+    fn edge_rows(&self) -> Rows<'a>
+        ensures table { result.table.now ≡ self.now.bytes.now }
+        ensures block { result.block ≡ edge_block self.now.bytes.now }
+    {
+        let k = self.vertex_labels();
+        let l = self.edge_labels();
+        let block = Block {
+            start: edge_rows_start(k),
+            rows: l,
+            row: edge_row_length(l),
+        };
+        Rows {
+            table: self.bytes,
+            block,
+        }
+    }
+
+    // Item 1, the marks of head and rows.
+    fn is_marked(&self) -> bool
+        ensures { result ≡ table_marked self.now.bytes.now }
+    {
+        let head = crate::marks::is_mark(self.bytes, 0, b"\xB1\x04");
+        let vertex_rows = self.vertex_rows();
+        let vertices = vertex_rows.are_marked(b"\xB1\x05");
+        let edge_rows = self.edge_rows();
+        let edges = edge_rows.are_marked(b"\xB1\x06");
+        head & (vertices & edges)
+    }
+
+    // Item 2.
+    fn weights_ok(&self) -> bool
+        ensures { result ≡ weights_ok self.now.bytes.now }
+    {
+        let vertex_rows = self.vertex_rows();
+        let vertices = vertex_rows.are_ok();
+        let edge_rows = self.edge_rows();
+        let edges = edge_rows.are_ok();
+        vertices & edges
     }
 }
 
-// The L edge rows, which follow the vertex rows.
-fn edge_block(table: &[u8]) -> Block
-    requires { TableSized table.now }
-    ensures { BlockOf table.now (edge_block table.now) result }
-{
-    let k = vertex_labels(table);
-    let l = edge_labels(table);
-    Block {
-        start: edge_rows_start(k),
-        rows: l,
-        row: edge_row_length(l),
+// The rows of a block that stands in a table.
+#[derive(Clone, Copy)]
+struct Rows<'a> {
+    table: &'a [u8],
+    block: Block,
+    ghost inside: { BlockIn table.now block },
+}
+
+impl<'a> Rows<'a> {
+    // Where row i stands.
+    fn at(&self, i: u8) -> usize
+        requires i_lt_rows { i < self.now.block.rows }
+        ensures { RowAt self.now.block i result }
+    {
+        self.block.start + (i as usize) * self.block.row
     }
-}
 
-// Where row i of the block stands.
-fn row_at(block: Block, i: u8) -> usize
-    requires rows_bound { row_start block block.rows < 2 ^ 64 }
-    requires i_lt_rows { i < block.rows }
-    ensures { RowAt block i result }
-{
-    block.start + (i as usize) * block.row
-}
+    // Row i has the mark m.
+    fn is_marked(&self, i: u8, m: &[u8; 2]) -> bool
+        requires i_lt_rows { i < self.now.block.rows }
+        ensures { result ≡ is_mark self.now.table.now (row_start self.now.block i) m.now }
+    {
+        crate::marks::is_mark(self.table, self.at(i), m)
+    }
 
-// Row i of the block has the mark m.
-fn row_marked(table: &[u8], block: Block, i: u8, m: &[u8; 2]) -> bool
-    requires block_in { BlockIn table.now block }
-    requires i_lt_rows { i < block.rows }
-    ensures { result ≡ is_mark table.now (row_start block i) m.now }
-{
-    crate::marks::is_mark(table, row_at(block, i), m)
-}
+    // Every row has the mark m.
+    fn are_marked(&self, m: &[u8; 2]) -> bool
+        ensures { result ≡ every (λ i. is_mark self.now.table.now (row_start self.now.block i) m.now) self.now.block.rows }
+    {
+        (0..self.block.rows).all(|i| self.is_marked(i, m))
+    }
 
-// Every row of the block has the mark m.
-fn rows_marked(table: &[u8], block: Block, m: &[u8; 2]) -> bool
-    requires { BlockIn table.now block }
-    ensures { result ≡ every (λ i. is_mark table.now (row_start block i) m.now) block.rows }
-{
-    (0..block.rows).all(|i| row_marked(table, block, i, m))
-}
+    // Every weight may stand in a table.
+    fn are_ok(&self) -> bool
+        ensures { result ≡ every (λ i. row_ok self.now.table.now (row_start self.now.block i) self.now.block.rows) self.now.block.rows }
+    {
+        (0..self.block.rows).all(|i| row_ok(self.table, self.at(i), self.block.rows))
+    }
 
-// Item 1, the marks of head and rows.
-fn is_marked(table: &[u8]) -> bool
-    requires { TableSized table.now }
-    ensures { result ≡ table_marked table.now }
-{
-    let head = crate::marks::is_mark(table, 0, b"\xB1\x04");
-    let vertices = rows_marked(table, vertex_block(table), b"\xB1\x05");
-    let edges = rows_marked(table, edge_block(table), b"\xB1\x06");
-    head & (vertices & edges)
+    // The weight in column j of row i.
+    fn weight(&self, i: u8, j: u8) -> i32
+        requires i_lt_rows { i < self.now.block.rows }
+        requires j_lt_rows { j < self.now.block.rows }
+        ensures { result ≡ int32_at self.now.table.now (column (row_start self.now.block i) j) }
+    {
+        weight_in_row(self.table, self.at(i), j)
+    }
 }
 
 // The weight in column j of the row at `row` may stand in a table.
@@ -143,24 +193,6 @@ fn row_ok(table: &[u8], row: usize, k: u8) -> bool
     (0..k).all(|j| entry_ok(table, row, j))
 }
 
-// So may every weight of the block.
-fn rows_ok(table: &[u8], block: Block) -> bool
-    requires { BlockIn table.now block }
-    ensures { result ≡ every (λ i. row_ok table.now (row_start block i) block.rows) block.rows }
-{
-    (0..block.rows).all(|i| row_ok(table, row_at(block, i), block.rows))
-}
-
-// Item 2.
-fn weights_ok(table: &[u8]) -> bool
-    requires { TableSized table.now }
-    ensures { result ≡ weights_ok table.now }
-{
-    let vertices = rows_ok(table, vertex_block(table));
-    let edges = rows_ok(table, edge_block(table));
-    vertices & edges
-}
-
 // The first of the items 1 and 2 that applies to a table.
 pub fn table_item(table: &[u8]) -> Result<(), Refusal>
     ensures { refusal_in result ≡ table_item table.now }
@@ -169,11 +201,12 @@ pub fn table_item(table: &[u8]) -> Result<(), Refusal>
     if !sized {
         return Err(Refusal::TableShape);
     }
-    let marked = is_marked(table);
+    let table = Table { bytes: table };
+    let marked = table.is_marked();
     if !marked {
         return Err(Refusal::TableShape);
     }
-    let fine = weights_ok(table);
+    let fine = table.weights_ok();
     if !fine {
         return Err(Refusal::TableWeights);
     }
@@ -188,23 +221,15 @@ pub fn weight_in_row(table: &[u8], row: usize, j: u8) -> i32
     integers::int32_at(table, row + 2 + 4 * (j as usize))
 }
 
-// The weight in column j of row i of the block.
-fn weight_at(table: &[u8], block: Block, i: u8, j: u8) -> i32
-    requires block_in { BlockIn table.now block }
-    requires i_lt_rows { i < block.rows }
-    requires j_lt_rows { j < block.rows }
-    ensures { result ≡ int32_at table.now (column (row_start block i) j) }
-{
-    weight_in_row(table, row_at(block, i), j)
-}
-
 // Where the row of the recorded vertex label i begins.
 pub fn vertex_row_at(table: &[u8], i: u8) -> usize
     requires table_sized { TableSized table.now }
     requires i_bound { i < vertex_labels table.now }
     ensures { result ≡ vertex_row table.now i }
 {
-    row_at(vertex_block(table), i)
+    let table = Table { bytes: table };
+    let rows = table.vertex_rows();
+    rows.at(i)
 }
 
 // The weight of the recorded edge label i and the found one j.
@@ -214,5 +239,7 @@ pub fn edge_weight_at(table: &[u8], i: u8, j: u8) -> i32
     requires j_bound { j < edge_labels table.now }
     ensures { result ≡ int32_at table.now (column (edge_row table.now i) j) }
 {
-    weight_at(table, edge_block(table), i, j)
+    let table = Table { bytes: table };
+    let rows = table.edge_rows();
+    rows.weight(i, j)
 }

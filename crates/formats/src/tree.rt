@@ -9,49 +9,65 @@ ghost use Rattle.trees.specs.Accepted.{Whole, Ends};
 ghost use Rattle.formats.specs.TreeItems.{items_from4, items_from5, items_from6};
 
 use crate::marks::is_mark;
-use crate::places::{edge_start, tree_size, vertex_start, with_serials};
-use crate::serials::do_serials_differ;
+use crate::places::{Records, tree_size, with_serials};
 use lengths::tree_head_length;
 use model::{Limits, TreeFault, VertexTable};
 use std::array;
 
-// ---- the bytes of an accepted tree
+// ---- a tree whose ends are vertices
 
-// One end of edge j, as written first and second.
-pub fn end_a(s: &[u8], n: usize, j: usize) -> u8
-    requires ends { Ends s.now n }
-    requires j_bound { j + 1 < n }
-    ensures value { result ≡ end_a s.now n j }
-    ensures low { result < n }
-    ensures few { result < vertex_limit }
-{
-    s[edge_start(s, n, j) + 2]
+// The bytes of a tree of n vertices that has the right length, and whose edges end at vertices.
+#[derive(Clone, Copy)]
+pub struct Tree<'a> {
+    pub bytes: &'a [u8],
+    pub n: usize,
+    pub ghost ends: { Ends bytes.now n },
 }
 
-pub fn end_b(s: &[u8], n: usize, j: usize) -> u8
-    requires ends { Ends s.now n }
-    requires j_bound { j + 1 < n }
-    ensures value { result ≡ end_b s.now n j }
-    ensures low { result < n }
-    ensures few { result < vertex_limit }
-{
-    s[edge_start(s, n, j) + 3]
-}
+impl<'a> Tree<'a> {
+    // Where its records stand.
+    pub(crate) fn records(&self) -> Records<'a>
+        ensures bytes { result.bytes.now ≡ self.now.bytes.now }
+        ensures n { result.n ≡ self.now.n }
+    {
+        Records {
+            bytes: self.bytes,
+            n: self.n,
+        }
+    }
 
-pub fn edge_label_at(s: &[u8], n: usize, j: usize) -> u8
-    requires ends { Ends s.now n }
-    requires j_bound { j + 1 < n }
-    ensures { result ≡ edge_label_at s.now n j }
-{
-    s[edge_start(s, n, j) + 4]
-}
+    // One end of edge j, as written first and second.
+    pub fn end_a(&self, j: usize) -> u8
+        requires j_bound { j + 1 < self.now.n }
+        ensures value { result ≡ end_a self.now.bytes.now self.now.n j }
+        ensures low { result < self.now.n }
+        ensures few { result < vertex_limit }
+    {
+        self.bytes[self.records().edge_start(j) + 2]
+    }
 
-pub fn vertex_label(s: &[u8], n: usize, v: usize) -> u8
-    requires ends { Ends s.now n }
-    requires v_lt_n { v < n }
-    ensures { result ≡ vertex_label s.now v }
-{
-    s[vertex_start(s, n, v) + 2]
+    pub fn end_b(&self, j: usize) -> u8
+        requires j_bound { j + 1 < self.now.n }
+        ensures value { result ≡ end_b self.now.bytes.now self.now.n j }
+        ensures low { result < self.now.n }
+        ensures few { result < vertex_limit }
+    {
+        self.bytes[self.records().edge_start(j) + 3]
+    }
+
+    pub fn edge_label(&self, j: usize) -> u8
+        requires j_bound { j + 1 < self.now.n }
+        ensures { result ≡ edge_label_at self.now.bytes.now self.now.n j }
+    {
+        self.bytes[self.records().edge_start(j) + 4]
+    }
+
+    pub fn vertex_label(&self, v: usize) -> u8
+        requires v_lt_n { v < self.now.n }
+        ensures { result ≡ vertex_label self.now.bytes.now v }
+    {
+        self.bytes[self.records().vertex_start(v) + 2]
+    }
 }
 
 // ---- item 3: length, count and marks
@@ -78,93 +94,85 @@ pub fn vertex_count(s: &[u8]) -> usize
     s[2] as usize
 }
 
-// The record of vertex v has the mark of the first.
-fn is_vertex(s: &[u8], n: usize, v: usize) -> bool
-    requires whole { Whole s.now n }
-    requires v_lt_n { v < n }
-    ensures { result ≡ is_mark s.now (vertex_start s.now v) (vertex_mark_of s.now) }
-{
-    let at = vertex_start(s, n, v);
-    if with_serials(s) {
-        is_mark(s, at, b"\xB1\x07")
-    } else {
-        is_mark(s, at, b"\xB1\x02")
+impl<'a> Records<'a> {
+    // The record of vertex v has the mark of the first.
+    fn is_vertex(&self, v: usize) -> bool
+        requires v_lt_n { v < self.now.n }
+        ensures { result ≡ is_mark self.now.bytes.now (vertex_start self.now.bytes.now v) (vertex_mark_of self.now.bytes.now) }
+    {
+        let at = self.vertex_start(v);
+        if with_serials(self.bytes) {
+            is_mark(self.bytes, at, b"\xB1\x07")
+        } else {
+            is_mark(self.bytes, at, b"\xB1\x02")
+        }
     }
-}
 
-fn vertices_marked(s: &[u8], n: usize) -> bool
-    requires { Whole s.now n }
-    ensures { result ≡ every (λ v. is_mark s.now (vertex_start s.now v) (vertex_mark_of s.now)) n }
-{
-    (0..n).all(|v| is_vertex(s, n, v))
-}
+    fn vertices_marked(&self) -> bool
+        ensures { result ≡ every (λ v. is_mark self.now.bytes.now (vertex_start self.now.bytes.now v) (vertex_mark_of self.now.bytes.now)) self.now.n }
+    {
+        (0..self.n).all(|v| self.is_vertex(v))
+    }
 
-fn is_edge(s: &[u8], n: usize, j: usize) -> bool
-    requires whole { Whole s.now n }
-    requires j_bound { j + 1 < n }
-    ensures { result ≡ is_mark s.now (edge_start s.now n j) edge_mark }
-{
-    is_mark(s, edge_start(s, n, j), b"\xB1\x03")
-}
+    fn is_edge(&self, j: usize) -> bool
+        requires j_bound { j + 1 < self.now.n }
+        ensures { result ≡ is_mark self.now.bytes.now (edge_start self.now.bytes.now self.now.n j) edge_mark }
+    {
+        is_mark(self.bytes, self.edge_start(j), b"\xB1\x03")
+    }
 
-fn edges_marked(s: &[u8], n: usize) -> bool
-    requires { Whole s.now n }
-    ensures { result ≡ every (λ j. is_mark s.now (edge_start s.now n j) edge_mark) (n - 1) }
-{
-    (0..n - 1).all(|j| is_edge(s, n, j))
-}
+    fn edges_marked(&self) -> bool
+        ensures { result ≡ every (λ j. is_mark self.now.bytes.now (edge_start self.now.bytes.now self.now.n j) edge_mark) (self.now.n - 1) }
+    {
+        (0..self.n - 1).all(|j| self.is_edge(j))
+    }
 
-fn is_marked(s: &[u8], n: usize) -> bool
-    requires { Whole s.now n }
-    ensures { result ≡ marked s.now n }
-{
-    let a = is_mark(s, 0, b"\xB1\x01");
-    let b = vertices_marked(s, n);
-    let c = edges_marked(s, n);
-    a & (b & c)
-}
+    fn is_marked(&self) -> bool
+        ensures { result ≡ marked self.now.bytes.now self.now.n }
+    {
+        let a = is_mark(self.bytes, 0, b"\xB1\x01");
+        let b = self.vertices_marked();
+        let c = self.edges_marked();
+        a & (b & c)
+    }
 
-// ---- item 4: labels that the table has
+    // ---- item 4: labels that the table has
 
-fn vertex_labels_known(s: &[u8], n: usize, labels: u8) -> bool
-    requires { Whole s.now n }
-    ensures { result ≡ every (λ v. ltb (vertex_label s.now v) labels) n }
-{
-    (0..n).all(|v| s[vertex_start(s, n, v) + 2] < labels)
-}
+    fn vertex_labels_known(&self, labels: u8) -> bool
+        ensures { result ≡ every (λ v. ltb (vertex_label self.now.bytes.now v) labels) self.now.n }
+    {
+        (0..self.n).all(|v| self.bytes[self.vertex_start(v) + 2] < labels)
+    }
 
-fn edge_labels_known(s: &[u8], n: usize, labels: u8) -> bool
-    requires { Whole s.now n }
-    ensures { result ≡ every (λ j. ltb (edge_label_at s.now n j) labels) (n - 1) }
-{
-    (0..n - 1).all(|j| s[edge_start(s, n, j) + 4] < labels)
-}
+    fn edge_labels_known(&self, labels: u8) -> bool
+        ensures { result ≡ every (λ j. ltb (edge_label_at self.now.bytes.now self.now.n j) labels) (self.now.n - 1) }
+    {
+        (0..self.n - 1).all(|j| self.bytes[self.edge_start(j) + 4] < labels)
+    }
 
-fn are_labels_known(s: &[u8], n: usize, k: u8, l: u8) -> bool
-    requires { Whole s.now n }
-    ensures { result ≡ labels_known s.now n k l }
-{
-    let a = vertex_labels_known(s, n, k);
-    let b = edge_labels_known(s, n, l);
-    a & b
-}
+    fn are_labels_known(&self, k: u8, l: u8) -> bool
+        ensures { result ≡ labels_known self.now.bytes.now self.now.n k l }
+    {
+        let a = self.vertex_labels_known(k);
+        let b = self.edge_labels_known(l);
+        a & b
+    }
 
-// ---- item 5: ends below n
+    // ---- item 5: ends below n
 
-fn ends_low_at(s: &[u8], n: usize, j: usize) -> bool
-    requires whole { Whole s.now n }
-    requires j_bound { j + 1 < n }
-    ensures { result ≡ (ltb (end_a s.now n j) n && ltb (end_b s.now n j) n) }
-{
-    let at = edge_start(s, n, j);
-    ((s[at + 2] as usize) < n) & ((s[at + 3] as usize) < n)
-}
+    fn ends_low_at(&self, j: usize) -> bool
+        requires j_bound { j + 1 < self.now.n }
+        ensures { result ≡ (ltb (end_a self.now.bytes.now self.now.n j) self.now.n && ltb (end_b self.now.bytes.now self.now.n j) self.now.n) }
+    {
+        let at = self.edge_start(j);
+        ((self.bytes[at + 2] as usize) < self.n) & ((self.bytes[at + 3] as usize) < self.n)
+    }
 
-fn are_ends_low(s: &[u8], n: usize) -> bool
-    requires { Whole s.now n }
-    ensures { result ≡ ends_low s.now n }
-{
-    (0..n - 1).all(|j| ends_low_at(s, n, j))
+    fn are_ends_low(&self) -> bool
+        ensures { result ≡ ends_low self.now.bytes.now self.now.n }
+    {
+        (0..self.n - 1).all(|j| self.ends_low_at(j))
+    }
 }
 
 // ---- item 6: no edge closes a cycle
@@ -183,90 +191,92 @@ fn own_components() -> VertexTable
     array::from_fn(|x| x as u8)
 }
 
-fn is_acyclic(s: &[u8], n: usize) -> bool
-    requires { Ends s.now n }
-    ensures { result ≡ acyclic s.now n }
-{
-    let mut l = own_components();
-    let edges = n - 1;
-    for j in 0..edges {
-        let x = l[end_a(s, n, j) as usize];
-        let y = l[end_b(s, n, j) as usize];
-        if x == y {
-            return false;
+impl<'a> Tree<'a> {
+    fn is_acyclic(&self) -> bool
+        ensures { result ≡ acyclic self.now.bytes.now self.now.n }
+    {
+        let mut l = own_components();
+        let edges = self.n - 1;
+        for j in 0..edges {
+            let x = l[self.end_a(j) as usize];
+            let y = l[self.end_b(j) as usize];
+            if x == y {
+                return false;
+            }
+            l = merged(l, y, x);
         }
-        l = merged(l, y, x);
+        true
     }
-    true
+
+    // ---- item 7: at most eight edges at a vertex
+
+    // How many edges end at each vertex: an edge counts once at each of its ends, and once in all where they are the same.
+    pub fn degrees(&self) -> VertexTable
+        ensures { result ≡ tab (λ v. degree self.now.bytes.now self.now.n v (self.now.n - 1)) vertex_limit }
+    {
+        let mut d = [0u8; Limits::ROWS];
+        let edges = self.n - 1;
+        for j in 0..edges {
+            let a = self.end_a(j);
+            let b = self.end_b(j);
+            d[a as usize] += 1;
+            d[b as usize] += u8::from(a != b);
+        }
+        d
+    }
+
+    fn are_edges_few(&self) -> bool
+        ensures { result ≡ few_edges self.now.bytes.now self.now.n }
+    {
+        let d = self.degrees();
+        d[..self.n].iter().all(|x| *x <= Limits::DEGREE)
+    }
+
+    // ---- the first item that applies
+
+    fn item_from_6(&self) -> Result<(), TreeFault>
+        ensures { (first twice : ℕ) → fault_in first twice result ≡ first_of (items_from6 first twice self.now.bytes.now self.now.n) }
+    {
+        let tree = self.is_acyclic();
+        if !tree {
+            return Err(TreeFault::Cycle);
+        }
+        let few = self.are_edges_few();
+        if !few {
+            return Err(TreeFault::Degree);
+        }
+        let differ = self.do_serials_differ();
+        if !differ {
+            return Err(TreeFault::Serials);
+        }
+        Ok(())
+    }
 }
 
-// ---- item 7: at most eight edges at a vertex
-
-// How many edges end at each vertex: an edge counts once at each of its ends, and once in all where they are the same.
-pub fn degrees(s: &[u8], n: usize) -> VertexTable
-    requires { Ends s.now n }
-    ensures { result ≡ tab (λ v. degree s.now n v (n - 1)) vertex_limit }
-{
-    let mut d = [0u8; Limits::ROWS];
-    let edges = n - 1;
-    for j in 0..edges {
-        let a = end_a(s, n, j);
-        let b = end_b(s, n, j);
-        d[a as usize] += 1;
-        d[b as usize] += u8::from(a != b);
+impl<'a> Records<'a> {
+    fn item_from_5(&self) -> Result<(), TreeFault>
+        ensures { (first twice : ℕ) → fault_in first twice result ≡ first_of (items_from5 first twice self.now.bytes.now self.now.n) }
+    {
+        let low = self.are_ends_low();
+        if !low {
+            return Err(TreeFault::Ends);
+        }
+        let tree = Tree {
+            bytes: self.bytes,
+            n: self.n,
+        };
+        tree.item_from_6()
     }
-    d
-}
 
-fn are_edges_few(s: &[u8], n: usize) -> bool
-    requires { Ends s.now n }
-    ensures { result ≡ few_edges s.now n }
-{
-    let d = degrees(s, n);
-    d[..n].iter().all(|x| *x <= Limits::DEGREE)
-}
-
-// ---- the first item that applies
-
-fn item_from_6(s: &[u8], n: usize) -> Result<(), TreeFault>
-    requires { Ends s.now n }
-    ensures { (first twice : ℕ) → fault_in first twice result ≡ first_of (items_from6 first twice s.now n) }
-{
-    let tree = is_acyclic(s, n);
-    if !tree {
-        return Err(TreeFault::Cycle);
+    fn item_from_4(&self, k: u8, l: u8) -> Result<(), TreeFault>
+        ensures { (first twice : ℕ) → fault_in first twice result ≡ first_of (items_from4 first twice self.now.bytes.now self.now.n k l) }
+    {
+        let known = self.are_labels_known(k, l);
+        if !known {
+            return Err(TreeFault::Labels);
+        }
+        self.item_from_5()
     }
-    let few = are_edges_few(s, n);
-    if !few {
-        return Err(TreeFault::Degree);
-    }
-    let differ = do_serials_differ(s, n);
-    if !differ {
-        return Err(TreeFault::Serials);
-    }
-    Ok(())
-}
-
-fn item_from_5(s: &[u8], n: usize) -> Result<(), TreeFault>
-    requires { Whole s.now n }
-    ensures { (first twice : ℕ) → fault_in first twice result ≡ first_of (items_from5 first twice s.now n) }
-{
-    let low = are_ends_low(s, n);
-    if !low {
-        return Err(TreeFault::Ends);
-    }
-    item_from_6(s, n)
-}
-
-fn item_from_4(s: &[u8], n: usize, k: u8, l: u8) -> Result<(), TreeFault>
-    requires { Whole s.now n }
-    ensures { (first twice : ℕ) → fault_in first twice result ≡ first_of (items_from4 first twice s.now n k l) }
-{
-    let known = are_labels_known(s, n, k, l);
-    if !known {
-        return Err(TreeFault::Labels);
-    }
-    item_from_5(s, n)
 }
 
 // The first of a tree's items that applies to it: 3 to 7 and 25 for the recorded tree, 8 to 12 and 26 for the found one. K and L are the table's numbers
@@ -279,9 +289,10 @@ pub fn tree_item(s: &[u8], k: u8, l: u8) -> Result<(), TreeFault>
         return Err(TreeFault::Shape);
     }
     let n = vertex_count(s);
-    let marks = is_marked(s, n);
+    let records = Records { bytes: s, n };
+    let marks = records.is_marked();
     if !marks {
         return Err(TreeFault::Shape);
     }
-    item_from_4(s, n, k, l)
+    records.item_from_4(k, l)
 }

@@ -78,7 +78,7 @@ pub fn weight_ok(w: i32) -> bool
 pub fn above_zero(x: i32) -> u32
     ensures { (result ≡ up x) × (result < 2 ^ 31) }
 {
-    if x <= 0 { 0 } else { x as u32 }
+    x.max(0) as u32
 }
 
 // The greater of 0 and the sum of an edge weight and a value.
@@ -86,7 +86,7 @@ pub fn gain(edge: i32, value: i32) -> u64
     ensures { Gain edge value result }
 {
     let s = (edge as i64) + (value as i64);
-    if s <= 0 { 0 } else { s as u64 }
+    s.max(0) as u64
 }
 
 // The weight plus a total of gains, and the ceiling where that is more. The bound on the total is far above eight gains.
@@ -96,11 +96,8 @@ pub fn stored_value(weight: i32, total: u64) -> i32
     ensures { StoredValue weight total result }
 {
     let s = (weight as i64) + (total as i64);
-    if (model::Limits::CEILING as i64) < s {
-        model::Limits::CEILING
-    } else {
-        s as i32
-    }
+    let clipped = s.min(model::Limits::CEILING as i64);
+    clipped as i32
 }
 
 // The lesser of two lengths.

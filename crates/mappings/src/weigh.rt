@@ -4,7 +4,7 @@ ghost use Rattle.model.specs.Tree.{count, end_a, end_b};
 ghost use Rattle.model.specs.Mapping.{IsMapping, vertex_pairs, edge_term, edge_pairs, weight};
 ghost use Rattle.mappings.specs.WeighLaws.{Ground, SumTo, vertex_term};
 
-use formats::tree::{edge_label_at, end_a, end_b};
+use formats::tree::Tree;
 use model::Limits;
 use plan::instance::Instance;
 use plan::weights::{edge_pair, vertex_pair};
@@ -43,8 +43,12 @@ fn edge_term(on: &Instance, mapping: &[u8], j: usize) -> i32
     ensures { SumTo 1 (edge_term on.now.table.now on.now.recorded.now on.now.found.now (take (count on.now.recorded.now) mapping.now) (end_a on.now.recorded.now (count on.now.recorded.now) j) (end_b on.now.recorded.now (count on.now.recorded.now) j)) result }
 {
     let n = on.n();
-    let a = mapping[end_a(on.recorded, n, j) as usize];
-    let b = mapping[end_b(on.recorded, n, j) as usize];
+    let tree = Tree {
+        bytes: on.recorded,
+        n,
+    };
+    let a = mapping[tree.end_a(j) as usize];
+    let b = mapping[tree.end_b(j) as usize];
     if a == Limits::NONE {
         return 0;
     }
@@ -52,7 +56,7 @@ fn edge_term(on: &Instance, mapping: &[u8], j: usize) -> i32
         return 0;
     }
     let c = slot(on.plan, a, b);
-    let i = edge_label_at(on.recorded, n, j);
+    let i = tree.edge_label(j);
     let k = neighbour_edge(on.plan, a, c - 1);
     edge_pair(on.table, i, k)
 }

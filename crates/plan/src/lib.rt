@@ -44,13 +44,6 @@ impl Blocks {
 // The plan: rows of a place for each of a vertex's children or neighbours, or of what belongs to the vertex itself.
 pub type Plan = [[u8; Limits::PLACES]; Blocks::ALL];
 
-// A byte as an index.
-pub fn wide(x: u8) -> usize
-    ensures { result ≡ x }
-{
-    x as usize
-}
-
 // The label of vertex x of the tree whose vertices' own rows begin at `first`.
 fn label(plan: &Plan, first: usize, x: u8) -> u8
     requires { first + x < plan_rows }

@@ -12,8 +12,7 @@ ghost use Rattle.planning.specs.Parents.{is_later, LaterAt, at_or};
 ghost use Rattle.planning.specs.Rows.{RecordedRead, FoundRead, Head, RecordedHalf, FoundHalf, VertexRow, VerticesHere, RecordedMade, FoundMade};
 
 use adjacency::{edge_table, neighbour_table};
-use formats::serials::serial_of;
-use formats::tree::{vertex_count, vertex_label};
+use formats::tree::{Tree, vertex_count};
 use integers::put_word;
 use model::{Limits, PlaceTable, Row, VertexTable};
 use plan::{Blocks, Plan};
@@ -224,9 +223,10 @@ fn store_vertices(plan: &mut Plan, s: &[u8], first: usize)
     ensures { VerticesHere s.now first plan.old plan.new (count s.now) }
 {
     let n = vertex_count(s);
+    let tree = Tree { bytes: s, n };
     for v in 0..n {
-        let label = vertex_label(s, n, v);
-        let serial = serial_of(s, n, v);
+        let label = tree.vertex_label(v);
+        let serial = tree.serial(v);
         let row = vertex_row(label, serial);
         plan[first + v] = row;
     }

@@ -10,7 +10,7 @@ ghost use Rattle.model.specs.Sizes.{SizesCall};
 ghost use Rattle.trees.specs.Accepted.{Sound};
 
 use formats::inputs::input_item;
-use formats::tree::{degrees, vertex_count};
+use formats::tree::{Tree, vertex_count};
 use lengths::{certificate_head_length, partner_length, subproblem_length};
 use model::{Refusal, Sizes};
 use plan::counts::{subproblem_count, width_of};
@@ -21,7 +21,8 @@ fn square_sum(found: &[u8]) -> usize
     ensures { (result ≡ squares found.now (count found.now)) × (result ≤ square_limit) }
 {
     let m = vertex_count(found);
-    let d = degrees(found, m);
+    let tree = Tree { bytes: found, n: m };
+    let d = tree.degrees();
     d[..m]
         .iter()
         .map(|x| usize::from(*x) * usize::from(*x))

@@ -1,22 +1,16 @@
 -- `neighbour_table` meets its contract. Assumes nothing.
 use Rattle.trees.specs.Accepted.{Ends}
 use Rattle.adjacency.specs.NeighbourSteps.{no_rows, joined_rows, rows_end}
-use borrow.Author.Rules.{rules}
 use native.Mathlib.Omega.{arith}
 use Rattle.adjacency.proofs.neighbour_table.Goals as goal
 
 pub loop-j-init : goal.loop-j-init
 loop-j-init c = no_rows _ _
 
-pub end_a-a-requires : goal.end_a-a-requires
-end_a-a-requires c =
+pub invariant_of-tree : goal.invariant_of-tree
+invariant_of-tree c =
     let ends : Ends c.args.s.now c.vertex_count-n.result = rw c.vertex_count-n.ensures c.requires in
-    record { ends = ends; j_bound = search rules }
-
-pub end_b-b-requires : goal.end_b-b-requires
-end_b-b-requires c =
-    let ends : Ends c.args.s.now c.vertex_count-n.result = rw c.vertex_count-n.ensures c.requires in
-    record { ends = ends; j_bound = search rules }
+    record { ends = ends }
 
 pub loop-j-preserved : goal.loop-j-preserved
 loop-j-preserved c =

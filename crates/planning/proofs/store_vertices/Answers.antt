@@ -10,21 +10,18 @@ vertex_count-n-requires c =
     let e = c.requires.sound.passed.ends in
     record { some = e.some; few = e.few; long = e.long }
 
+pub invariant_of-tree : goal.invariant_of-tree
+invariant_of-tree c = record { ends = rw c.vertex_count-n.ensures c.requires.sound.passed.ends }
+
 pub loop-v-init : goal.loop-v-init
 loop-v-init c =
     let few = c.requires.sound.passed.ends.few in
     (search rules, omega (arith, few, c.vertex_count-n.ensures), c.requires.vertex_limit_bound, vertices_none _ _ _ c.requires.plan_len)
 
-pub vertex_label-label-requires : goal.vertex_label-label-requires
-vertex_label-label-requires c = record { ends = rw c.loop-v.invariant.0 c.requires.sound.passed.ends; v_lt_n = omega arith }
-
-pub serial_of-serial-requires : goal.serial_of-serial-requires
-serial_of-serial-requires c = record { ends = rw c.loop-v.invariant.0 c.requires.sound.passed.ends; v_lt_n = omega arith }
-
 pub loop-v-preserved : goal.loop-v-preserved
 loop-v-preserved c =
     let i = c.loop-v.invariant in
-    (i.0, i.1, i.2, vertices_more i.2 (omega arith) i.3 (rw (c.vertex_label-label.ensures, c.serial_of-serial.ensures) at c.vertex_row-row.ensures))
+    (i.0, i.1, i.2, vertices_more i.2 (omega arith) i.3 (rw (c.vertex_label-label.ensures, c.serial-serial.ensures) at c.vertex_row-row.ensures))
 
 pub returns : goal.returns
 returns c =

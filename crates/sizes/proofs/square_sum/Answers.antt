@@ -9,8 +9,8 @@ use Rattle.std.proofs.lemmas.Iterator.Consumers.{sum_by_from_yields_List, fits_b
 use borrow.Author.Tests.{tests}
 use Rattle.sizes.proofs.square_sum.Goals as goal
 
-pub degrees-d-requires : goal.degrees-d-requires
-degrees-d-requires c = subst (λ (n : ℕ). Ends c.args.found.now n) (sym c.vertex_count-m.ensures) c.requires.passed.ends
+pub invariant_of-tree : goal.invariant_of-tree
+invariant_of-tree c = record { ends = subst (λ (n : ℕ). Ends c.args.found.now n) (sym c.vertex_count-m.ensures) c.requires.passed.ends }
 
 pub sum-requires-clause-fits : goal.sum-requires-clause-fits
 sum-requires-clause-fits c =

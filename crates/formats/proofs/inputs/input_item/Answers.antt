@@ -12,11 +12,8 @@ use Rattle.formats.proofs.inputs.input_item.Goals as goal
 pub returns-in_err-table_item : goal.returns-in_err-table_item
 returns-in_err-table_item c = sent_on _ _ c.from_residual.ensures.1 c.in_err-table_item.ensures (input_table _ _ _)
 
-pub vertex_labels-k-requires : goal.vertex_labels-k-requires
-vertex_labels-k-requires c = (table_passed _ (sym c.in_ok-table_item.ensures)).sized
-
-pub edge_labels-l-requires : goal.edge_labels-l-requires
-edge_labels-l-requires c = (table_passed _ (sym c.in_ok-table_item.ensures)).sized
+pub invariant_of-table : goal.invariant_of-table
+invariant_of-table c = record { sized = (table_passed _ (sym c.in_ok-table_item.ensures)).sized }
 
 pub returns-in_err-map_err : goal.returns-in_err-map_err
 returns-in_err-map_err c =

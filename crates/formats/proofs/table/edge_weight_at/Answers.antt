@@ -3,10 +3,10 @@ use borrow.Author.Rules.{rules}
 use Rattle.foundations.specs.Machine.{Same}
 use Rattle.formats.proofs.table.edge_weight_at.Goals as goal
 
-pub weight_at-requires : goal.weight_at-requires
-weight_at-requires c =
-    let e = c.edge_block.ensures in record { block_in = e.held; i_lt_rows = rw e.is c.requires.i_bound; j_lt_rows = rw e.is c.requires.j_bound }
+pub weight-requires : goal.weight-requires
+weight-requires c =
+    let e = c.edge_rows-rows.ensures in record { i_lt_rows = rw e.block c.requires.i_bound; j_lt_rows = rw e.block c.requires.j_bound }
 
 pub returns : goal.returns
 returns c =
-    let b : Same c.weight_at.result = search rules in rw (b, c.weight_at.ensures, c.edge_block.ensures.is)
+    let b : Same c.weight.result = search rules in rw (b, c.weight.ensures, c.edge_rows-rows.ensures.table, c.edge_rows-rows.ensures.block)

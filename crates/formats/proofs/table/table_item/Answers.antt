@@ -11,20 +11,15 @@ use Rattle.formats.proofs.table.table_item.Goals as goal
 pub returns-then-not-sized : goal.returns-then-not-sized
 returns-then-not-sized c = rw (table_item_chain c.args.table.now) (cond_no _ _ _ 1 c.is_sized-sized.ensures (ap not c.if-not-sized.true))
 
-pub is_marked-marked-requires : goal.is_marked-marked-requires
-is_marked-marked-requires c =
+pub invariant_of-table : goal.invariant_of-table
+invariant_of-table c =
     let sized : table_sized c.args.table.now ≡ true = passed _ _ c.is_sized-sized.ensures (ap not c.if-not-sized.false) in
-    sized_says _ (sized)
+    record { sized = sized_says _ sized }
 
 pub returns-then-not-marked : goal.returns-then-not-marked
 returns-then-not-marked c =
     let sized : table_sized c.args.table.now ≡ true = passed _ _ c.is_sized-sized.ensures (ap not c.if-not-sized.false) in
     rw (table_item_chain c.args.table.now, sized) (cond_no _ _ _ 1 c.is_marked-marked.ensures (ap not c.if-not-marked.true))
-
-pub weights_ok-fine-requires : goal.weights_ok-fine-requires
-weights_ok-fine-requires c =
-    let sized : table_sized c.args.table.now ≡ true = passed _ _ c.is_sized-sized.ensures (ap not c.if-not-sized.false) in
-    sized_says _ (sized)
 
 pub returns-then-not-fine : goal.returns-then-not-fine
 returns-then-not-fine c =

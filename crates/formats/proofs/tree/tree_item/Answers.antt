@@ -25,21 +25,16 @@ returns-then-not-right c = λ first twice.
 pub vertex_count-n-requires : goal.vertex_count-n-requires
 vertex_count-n-requires c = sized_says _ (passed _ _ c.is_sized-right.ensures (ap not c.if-not-right.false))
 
-pub is_marked-marks-requires : goal.is_marked-marks-requires
-is_marked-marks-requires c =
+pub invariant_of-records : goal.invariant_of-records
+invariant_of-records c =
     let size : Whole c.args.s.now c.vertex_count-n.result = rw c.vertex_count-n.ensures (sized_says _ (passed _ _ c.is_sized-right.ensures (ap not c.if-not-right.false))) in
-    size
+    record { whole = size }
 
 pub returns-then-not-marks : goal.returns-then-not-marks
 unfolding tree_item
 returns-then-not-marks c = λ first twice.
     let a = c.args in
     first_no _ c.is_marked-marks.result first _ (shaped a.s.now c.is_sized-right.result c.is_marked-marks.result c.vertex_count-n.result c.is_sized-right.ensures (ap not c.if-not-right.false) c.vertex_count-n.ensures c.is_marked-marks.ensures) (ap not c.if-not-marks.true)
-
-pub item_from_4-requires : goal.item_from_4-requires
-item_from_4-requires c =
-    let size : Whole c.args.s.now c.vertex_count-n.result = rw c.vertex_count-n.ensures (sized_says _ (passed _ _ c.is_sized-right.ensures (ap not c.if-not-right.false))) in
-    size
 
 pub returns : goal.returns
 unfolding tree_item

@@ -1,9 +1,0 @@
--- `degrees` meets its contract. Assumes nothing.
-use mathlib.Core.Path.{◌≡◌}
-use Rattle.foundations.specs.Lists.{tab}
-use Rattle.model.specs.Limits.{vertex_limit}
-use Rattle.model.specs.Tree.{degree}
-use Rattle.formats.proofs.tree.degrees.Given as goal
-
-abbrev pub invariant-loop-j : goal.invariant-loop-j
-invariant-loop-j l = l.d ≡ tab (λ v. degree l.s l.n v l.j) vertex_limit

@@ -1,5 +1,0 @@
--- `is_edge` meets its contract. Assumes nothing.
-use Rattle.formats.proofs.tree.is_edge.Goals as goal
-
-pub returns : goal.returns
-returns c = rw (← c.edge_start.ensures.0) c.is_mark.ensures

@@ -1,5 +1,0 @@
--- `vertex_label` meets its contract. Assumes nothing.
-use Rattle.formats.proofs.tree.vertex_label.Goals as goal
-
-pub returns : goal.returns
-returns c = rw c.vertex_start.ensures.0
