@@ -11,7 +11,7 @@ ghost use Rattle.write.specs.Call.{Left};
 
 use crate::record::put_records;
 use job_items::start_item;
-use model::{Limits, WriteAnswer};
+use model::{Limits, Refusal};
 use one_call::solve_and_read;
 use plan::Blocks;
 use plan::instance::Instance;
@@ -40,13 +40,10 @@ pub fn write_certificate(
     found: &[u8],
     work: &mut [i32],
     certificate: &mut [u8],
-) -> WriteAnswer
+) -> Result<u32, Refusal>
     ensures { WriteCall table.now recorded.now found.now work.old certificate.old work.new certificate.new result }
 {
-    let item = start_item(table, recorded, found, work);
-    if item != 0 {
-        return WriteAnswer::Refused(item);
-    }
+    start_item(table, recorded, found, work)?;
     let mut plan = [[0u8; Limits::PLACES]; Blocks::ALL];
     make(&mut plan, recorded, found);
     let on = Instance {
@@ -59,9 +56,8 @@ pub fn write_certificate(
     places_of(&mut places, &on);
     let l = begin(&places, on.n());
     if certificate.len() < l {
-        return WriteAnswer::Refused(19);
+        return Err(Refusal::CertificateShort);
     }
     solve_and_write(&on, work, certificate);
-    let length = l as u32;
-    WriteAnswer::Written(length)
+    Ok(l as u32)
 }
