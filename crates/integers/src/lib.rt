@@ -1,7 +1,7 @@
-//! Leaf functions on 32-bit integers: bytes to a weight or a serial and back, the tests of a weight, and the arithmetic of one subproblem. The lesser of two lengths.
+//! Leaf functions on 32-bit integers: bytes to a weight or a serial and back, the tests of a weight, and the arithmetic of one subproblem.
 #![tactic(auto)]
 
-ghost use Rattle.std.specs.Prelude.{◌≡◌, true, ◌+◌, ◌≤◌, ◌<◌, ◌^◌, min, length};
+ghost use Rattle.std.specs.Prelude.{◌≡◌, true, ◌+◌, ◌≤◌, ◌<◌, ◌^◌, length};
 ghost use Rattle.foundations.specs.Int.{up};
 ghost use Rattle.model.specs.Bytes.{word, word_at, signed32, bits32, int32, int32_at, put_word, put_int32};
 ghost use Rattle.model.specs.Weights.{is_forbidden, in_range, weight_ok};
@@ -98,11 +98,4 @@ pub fn stored_value(weight: i32, total: u64) -> i32
     let s = (weight as i64) + (total as i64);
     let clipped = s.min(model::Limits::CEILING as i64);
     clipped as i32
-}
-
-// The lesser of two lengths.
-pub fn lesser(a: usize, b: usize) -> usize
-    ensures { result ≡ min a b }
-{
-    a.min(b)
 }
