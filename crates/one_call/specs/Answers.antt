@@ -1,18 +1,24 @@
 -- The answers of a match: their numbers and weights, and the two main theorems of the call, from its contract. Assumes nothing.
-use Rattle.std.specs.Prelude.{◌≡◌, refl, ◌≢◌, ◌↔◌, List, ℕ, take, ℤ, Ok, Err}
+use Rattle.std.specs.Prelude.{◌≡◌, refl, ◌≢◌, ◌↔◌, List, ℕ, take, ℤ, pos, Ok, Err}
 use Rattle.std.proofs.Common.{sym, ap, ◌∙◌, ⊎_elim}
 use Rattle.foundations.specs.Tests.{same?}
 use Rattle.model.specs.Tree.{count}
 use Rattle.model.specs.Calls.{match_item}
 use Rattle.model.specs.Mapping.{Heaviest, weight}
 use Rattle.model.specs.Match.{refusal_of, weight_of, MatchCall, Refusal}
-use Rattle.model.specs.Refusals.{Answer, refusal_in, RefusedBy}
+use Rattle.model.specs.Refusals.{Answer, item_number, refusal_in, RefusedBy}
 use Rattle.model.specs.declared.refusal.Refusal as named
 use Rattle.model.proofs.Refusals.{refused_is, refused_by, number_some}
 
+pub refused_number : {a : Answer ℤ} {e : named.Refusal} → a ≡ Err e → refusal_of a ≡ item_number e
+refused_number is = ap refusal_of is
+
+pub refused_weight : {a : Answer ℤ} {e : named.Refusal} → a ≡ Err e → weight_of a ≡ pos 0
+refused_weight is = ap weight_of is
+
 -- a refusal that left all as it was
 pub refusal_made : (a : Answer ℤ) (work : List ℤ) (mapping : List ℕ) {k : ℕ} → refusal_in a ≡ k → k ≢ 0 → Refusal k work mapping work mapping a
-refusal_made a work mapping e n = let g = refused_is a e n in record { given = g; number = e; weighs = ap weight_of g; work_kept = refl; mapping_kept = refl }
+refusal_made a work mapping e n = let g = refused_is a e n in record { given = g; number = e; weighs = refused_weight g; work_kept = refl; mapping_kept = refl }
 
 pub found_number_lem : {a : Answer ℤ} {w : ℤ} → a ≡ Ok w → refusal_of a ≡ 0
 found_number_lem e = ap refusal_of e

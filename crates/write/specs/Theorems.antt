@@ -5,14 +5,20 @@ use Rattle.foundations.specs.Tests.{same?}
 use Rattle.model.specs.declared.refusal.Refusal.{Refusal}
 use Rattle.model.specs.Certificate.{certificate_length, check_of, mapping_in, weight_in}
 use Rattle.model.specs.Mapping.{Heaviest, weight}
-use Rattle.model.specs.Refusals.{Answer, refusal_in, RefusedBy}
+use Rattle.model.specs.Refusals.{Answer, item_number, refusal_in, RefusedBy}
 use Rattle.model.specs.Writing.{write_item, write_refusal, length_of, WriteCall, WritingRefusal}
 use Rattle.model.proofs.Refusals.{refused_is, refused_by, number_some}
 use Rattle.certificate.specs.Sound.{certificate_sound}
 
+pub refused_number : {a : Answer ℕ} {e : Refusal} → a ≡ Err e → write_refusal a ≡ item_number e
+refused_number is = ap write_refusal is
+
+pub refused_length : {a : Answer ℕ} {e : Refusal} → a ≡ Err e → length_of a ≡ 0
+refused_length is = ap length_of is
+
 -- a refusal that left all as it was
 pub refusal_made : (a : Answer ℕ) (work : List ℤ) (certificate : List ℕ) {k : ℕ} → refusal_in a ≡ k → k ≢ 0 → WritingRefusal k work certificate work certificate a
-refusal_made a work certificate e n = let g = refused_is a e n in record { given = g; number = e; measures = ap length_of g; work_kept = refl; certificate_kept = refl }
+refusal_made a work certificate e n = let g = refused_is a e n in record { given = g; number = e; measures = refused_length g; work_kept = refl; certificate_kept = refl }
 
 pub written_number : {a : Answer ℕ} {l : ℕ} → a ≡ Ok l → write_refusal a ≡ 0
 written_number e = ap write_refusal e
