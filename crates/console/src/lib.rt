@@ -12,7 +12,7 @@ ghost use Rattle.console.specs.Room.{PartsLeave};
 use crate::show::{Partner, Told};
 use formats::bytes::byte_or_zero;
 use formats::split::{Parts, split};
-use model::refusal::Refusal;
+use model::Refusal;
 use one_call::match_trees;
 use std::io;
 

@@ -2,8 +2,7 @@
 ghost use Rattle.std.specs.Prelude.{Some};
 ghost use Rattle.console.specs.Show.{told, partner_text};
 
-use model::Limits;
-use model::refusal::Refusal;
+use model::{Limits, Refusal};
 use std::fmt;
 
 // The answer of a match as it is printed: the weight, or the number of the item that refuses it.

@@ -1,8 +1,7 @@
 //! What is printed of a step.
 use crate::memory::Memory;
 use console::show::{Partner, Told};
-use model::JobRecord;
-use model::refusal::Refusal;
+use model::{JobRecord, Refusal};
 use std::{fmt, io};
 
 // A job record as it is printed.

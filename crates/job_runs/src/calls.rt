@@ -3,8 +3,7 @@ use formats::split::Parts;
 use job_lines::memory::Memory;
 use job_lines::show::Slices;
 use jobs::{advance_core, start_core};
-use model::refusal::Refusal;
-use model::{JobRecord, Limits};
+use model::{JobRecord, Limits, Refusal};
 use one_call::match_trees;
 
 // The match in one call, over fresh work numbers, which become the copy; the mapping buffer is cleared after it.
