@@ -16,12 +16,7 @@ use model::{JobRecord, Refusal};
 use plan::counts::{product, subproblem_count};
 
 // The first of the items 1 to 13, 25 and 26 that applies.
-pub fn start_item(
-    table: &[u8],
-    recorded: &[u8],
-    found: &[u8],
-    work: &[i32],
-) -> Result<(), Refusal>
+pub fn start_item(table: &[u8], recorded: &[u8], found: &[u8], work: &[i32]) -> Result<(), Refusal>
     ensures { refusal_in result ≡ start_item table.now recorded.now found.now work.now }
 {
     input_item(table, recorded, found)?;
