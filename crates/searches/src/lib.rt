@@ -18,7 +18,7 @@ use solver::subproblem::Scratch;
 
 // Entry point.
 // Fills all work numbers and sets the counts to the searches that this takes and how often these look at each pair of places. The answer is 0, or the
-// number of the first item of a start that applies; then nothing is written.
+// number of the first item of a start that applies; then nothing is written. A number and no Result: it is what the C interface gives (`searches_c`).
 pub fn count_searches(
     table: &[u8],
     recorded: &[u8],

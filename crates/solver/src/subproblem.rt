@@ -105,7 +105,7 @@ pub fn gains(g: &mut Gains, on: &Instance, work: &[i32], of: Shared, v: u8)
     }
 }
 
-// The neighbour of v in column p, 255 where p is none.
+// The neighbour of v in column p, 255 where p is none. No option: a row of mates is bytes, of which `ChoiceAt` speaks, and so is the mapping.
 fn name_or(plan: &Plan, v: u8, p: u8) -> u8
     requires { v < vertex_limit }
     ensures { result ≡ name_or (neighbour_in plan.now v) p }
