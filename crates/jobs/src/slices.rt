@@ -2,7 +2,7 @@
 ghost use Rattle.std.specs.Prelude.{◌+◌, ◌-◌, ◌≤◌, min, ◌≡◌};
 ghost use Rattle.model.specs.Limits.{subproblem_limit};
 ghost use Rattle.model.specs.Order.{subproblems};
-ghost use Rattle.model.specs.Jobs.{started, advanced, total_limit};
+ghost use Rattle.model.specs.Jobs.{started, advanced};
 
 use formats::bytes::byte_or_zero;
 use model::JobRecord;
@@ -33,23 +33,13 @@ pub(crate) fn begun(job: JobRecord, recorded: &[u8], found: &[u8]) -> JobRecord
     }
 }
 
-// The total stops at its limit.
-fn total_after(total: u32, count: u32) -> u32
-    ensures { result ≡ min (total + count) total_limit }
-{
-    if count <= JobRecord::TOTAL - total {
-        total + count
-    } else {
-        JobRecord::TOTAL
-    }
-}
-
 // The record after so many subproblems.
 pub(crate) fn moved(job: JobRecord, count: u32) -> JobRecord
     requires { job.position + count ≤ subproblem_limit }
     ensures { result ≡ advanced job count }
 {
-    let total = total_after(job.total, count);
+    // The total stops at its limit.
+    let total = job.total.saturating_add(count);
     JobRecord {
         idle: job.idle,
         n: job.n,

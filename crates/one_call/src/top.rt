@@ -9,7 +9,7 @@ use plan::counts::width_of;
 use plan::instance::Instance;
 use plan::{offset, place};
 
-// A number that is not negative and the pair that has it; of 0 the pair says nothing.
+// A number that is not negative and the pair that has it; of 0, which stands for none while numbers are compared, the pair says nothing.
 #[derive(Clone, Copy)]
 pub struct Top {
     pub weight: u32,

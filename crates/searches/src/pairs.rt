@@ -23,6 +23,7 @@ use solver::subproblem::Scratch;
 // The item that refused the call, 0 for none; then over all pairs of a recorded vertex u with a found vertex v: the searches, the most that they can
 // be (the children of u and the neighbours of v), and how often a pair of places was looked at; how many pairs took exactly the most, where that is above
 // 0; and the searches of the pair that took the most of them.
+// `item` is a number and no Result's error: the layout is that of the C interface (`searches_c`).
 #[repr(C)]
 #[derive(Clone, Copy)]
 pub struct Tally {

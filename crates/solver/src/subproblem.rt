@@ -105,7 +105,7 @@ pub fn gains(g: &mut Gains, on: &Instance, work: &[i32], of: Shared, v: u8)
     }
 }
 
-// The neighbour of v in column p, 255 where there is none.
+// The neighbour of v in column p, 255 where there is none: a row of mates is bytes, of which `ChoiceAt` speaks, and so is the mapping.
 fn name_or(plan: &Plan, v: u8, p: Option<usize>) -> u8
     requires v_lt_vertex_limit { v < vertex_limit }
     requires column { MatchOption p (Unit {0}) (λ j. j < degree_limit) }

@@ -22,6 +22,7 @@ use records::{column, others_of, records_begin};
 // The duals of the l neighbours other than the q-th choice of s, in order.
 fn others_row(x: &[u64], l: usize, q: usize) -> WideRow
     requires l_le_degree_limit { l ≤ degree_limit }
+    requires l_in_bounds { l ≤ length x.now }
     requires by_index { (j : ℕ) → j < l → column_in q j < length x.now }
     ensures { OthersRow l q x.now result }
 {

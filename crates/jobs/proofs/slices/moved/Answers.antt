@@ -4,4 +4,4 @@ use Rattle.jobs.proofs.slices.moved.Goals as goal
 
 pub returns : goal.returns
 unfolding advanced
-returns c = rw c.total_after-total.ensures
+returns c = rw c.saturating_add-total.ensures

@@ -8,6 +8,9 @@ use Rattle.write.proofs.record.put_one.Goals as goal
 pub others_row-others-requires-clause-l_le_degree_limit : goal.others_row-others-requires-clause-l_le_degree_limit
 others_row-others-requires-clause-l_le_degree_limit c = omega (arith, c.others_of-l.ensures, others_few (length c.args.neighbours.now) c.args.q, c.requires.one_fits.degree)
 
+pub others_row-others-requires-clause-l_in_bounds : goal.others_row-others-requires-clause-l_in_bounds
+others_row-others-requires-clause-l_in_bounds c = omega (arith, c.others_of-l.ensures, others_few (length c.args.neighbours.now) c.args.q)
+
 pub slice_bounds-others-end : goal.slice_bounds-others-end
 slice_bounds-others-end c = omega (arith, c.others_of-l.ensures, others_few (length c.args.neighbours.now) c.args.q, c.requires.one_fits.degree, c.others_row-others.ensures.long)
 
