@@ -47,19 +47,22 @@ start_refused_as j table r f work a e n = ap (λ (x : Answer ⊤). record { job 
 pub start_accepted_as : (j : JobRecord) (table r f : List ℕ) (work : List ℤ) (j' : JobRecord) → j' ≡ started j r f → start_item table r f work ≡ 0 → ◌≡◌ {A = StartOutcome} (record { job = j'; answer = Ok tt }) (start_of j table r f work)
 start_accepted_as j table r f work j' e z = ap (λ (i : JobRecord). record { job = i; answer = Ok tt }) e ∙ sym (start_accepted j table r f work z)
 
--- what an advance answers and fills
+pub advance_refused_as : (j : JobRecord) (table r f : List ℕ) (work : List ℤ) (b : ℕ) (a : Answer ℕ) → refusal_in a ≡ advance_item j table r f work → advance_item j table r f work ≢ 0 → ◌≡◌ {A = AdvanceOutcome} (record { job = j; answer = a }) (advance_of j table r f b work) × (work ≡ advance_work j table r f b work)
+advance_refused_as j table r f work b a e n = (ap (λ (x : Answer ℕ). record { job = j; answer = x }) (refused_is a e n) ∙ sym (advance_refused j table r f b work n), sym (advance_unfilled j table r f b work n))
+
+pub advance_accepted_as : (j : JobRecord) (table r f : List ℕ) (work : List ℤ) (b : ℕ) (j' : JobRecord) (c : ℕ) (work' : List ℤ) → j' ≡ advanced j c → c ≡ min b (subproblems r f - j.position) → advance_item j table r f work ≡ 0 → work' ≡ fill table r f work j.position c → ◌≡◌ {A = AdvanceOutcome} (record { job = j'; answer = Ok c }) (advance_of j table r f b work) × (work' ≡ advance_work j table r f b work)
+unfolding slice_count
+advance_accepted_as j table r f work b j' c work' e s z w = (
+  ap (λ (i : JobRecord). record { job = i; answer = Ok c }) e ∙ ap (λ (n : ℕ). record { job = advanced j n; answer = Ok n }) s ∙ sym (advance_accepted j table r f b work z),
+  w ∙ ap (λ (n : ℕ). fill table r f work j.position n) s ∙ sym (advance_fills j table r f b work z),
+)
+
+-- what an advance answers and fills, whatever record it leaves
 abbrev pub AdvanceIs : JobRecord → List ℕ → List ℕ → List ℕ → ℕ → List ℤ → Answer ℕ → List ℤ → Type 0
 AdvanceIs j table r f b work a work' = (a ≡ (advance_of j table r f b work).answer) × (work' ≡ advance_work j table r f b work)
 
-pub advance_refused_as : (j : JobRecord) (table r f : List ℕ) (work : List ℤ) (b : ℕ) (a : Answer ℕ) → refusal_in a ≡ advance_item j table r f work → advance_item j table r f work ≢ 0 → AdvanceIs j table r f b work a work
-advance_refused_as j table r f work b a e n = (refused_is a e n ∙ sym (ap (λ o. o.answer) (advance_refused j table r f b work n)), sym (advance_unfilled j table r f b work n))
-
-pub advance_accepted_as : (j : JobRecord) (table r f : List ℕ) (work : List ℤ) (b c : ℕ) (work' : List ℤ) → c ≡ min b (subproblems r f - j.position) → advance_item j table r f work ≡ 0 → work' ≡ fill table r f work j.position c → AdvanceIs j table r f b work (Ok c) work'
-unfolding slice_count
-advance_accepted_as j table r f work b c work' s z w = (
-  ap Ok s ∙ sym (ap (λ o. o.answer) (advance_accepted j table r f b work z)),
-  w ∙ ap (λ (n : ℕ). fill table r f work j.position n) s ∙ sym (advance_fills j table r f b work z),
-)
+pub advance_is : (j : JobRecord) (table r f : List ℕ) (work : List ℤ) (b : ℕ) (j' : JobRecord) (a : Answer ℕ) (work' : List ℤ) → ◌≡◌ {A = AdvanceOutcome} (record { job = j'; answer = a }) (advance_of j table r f b work) × (work' ≡ advance_work j table r f b work) → AdvanceIs j table r f b work a work'
+advance_is j table r f work b j' a work' h = (ap (λ (o : AdvanceOutcome). o.answer) h.0, h.1)
 
 -- so the record goes on by the count, or stays
 pub advance_outcome : (j : JobRecord) (table r f : List ℕ) (work : List ℤ) (b : ℕ) (a : Answer ℕ) (j' : JobRecord) → a ≡ (advance_of j table r f b work).answer → MatchResult a (λ c. j' ≡ advanced j c) (λ e. j' ≡ j)

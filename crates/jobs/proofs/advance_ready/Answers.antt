@@ -1,9 +1,9 @@
 -- `advance_ready` tests the work numbers before the position, and then fills from there. Assumes nothing.
-use mathlib.Core.Path.{◌≡◌, sym, ◌∙◌}
+use mathlib.Core.Path.{◌≡◌, refl, sym, ◌∙◌}
 use Prim.Native.Nat.{ℕ}
 use Rattle.foundations.specs.Tests.{passed}
 use Rattle.job_items.specs.Items.{early_passed, advance_work_lem, advance_none}
-use Rattle.jobs.specs.Outcomes.{advance_refused_as, advance_accepted_as}
+use Rattle.jobs.specs.Outcomes.{advance_refused_as, advance_accepted_as, advance_is}
 use native.Mathlib.Omega.{arith}
 use mathlib.Core.Path.{ap}
 use mathlib.Core.Bool.{not}
@@ -22,7 +22,7 @@ work_ok-fine-requires-clause-position_bound c =
 pub returns-then-not-fine : goal.returns-then-not-fine
 returns-then-not-fine c =
     let item = advance_work_lem _ _ _ _ _ c.requires (sym c.work_ok-fine.ensures ∙ c.if-not-fine.true) in
-    record { answers = advance_refused_as _ _ _ _ _ c.args.budget _ (sym item) (λ z. some (sym item ∙ z)); within = tt }
+    record { answers = advance_is _ _ _ _ _ _ _ _ _ (advance_refused_as _ _ _ _ _ c.args.budget _ (sym item) (λ z. some (sym item ∙ z))); within = tt }
   where
     some : ◌≡◌ {A = ℕ} 16 0 → ⊥
     some e = omega arith
@@ -47,7 +47,8 @@ fill-requires-clause-count_bound c =
 pub returns : goal.returns
 returns c = record {
   answers =
-      advance_accepted_as _ _ _ _ _ c.args.budget _ _ c.slice_of-count.ensures.0
-      (advance_none _ _ _ _ _ c.requires (passed _ _ c.work_ok-fine.ensures (ap not c.if-not-fine.false))) c.fill.ensures;
+      advance_is _ _ _ _ _ _ _ _ _
+      (advance_accepted_as _ _ _ _ _ c.args.budget _ _ _ refl c.slice_of-count.ensures.0
+      (advance_none _ _ _ _ _ c.requires (passed _ _ c.work_ok-fine.ensures (ap not c.if-not-fine.false))) c.fill.ensures);
   within = c.slice_of-count.ensures.1;
 }

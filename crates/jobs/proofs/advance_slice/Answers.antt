@@ -4,7 +4,7 @@ use Rattle.std.proofs.lemmas.Result.{IfOk-from_err}
 use Rattle.formats.specs.Inputs.{input_sound}
 use Rattle.model.proofs.Refusals.{sent_on, number_some}
 use Rattle.job_items.specs.Items.{early_passed, advance_early}
-use Rattle.jobs.specs.Outcomes.{advance_refused_as}
+use Rattle.jobs.specs.Outcomes.{advance_refused_as, advance_is}
 use Rattle.jobs.proofs.advance_slice.Goals as goal
 
 pub returns-in_err-early_item : goal.returns-in_err-early_item
@@ -12,7 +12,7 @@ returns-in_err-early_item c =
     let some = λ (z : _). number_some c.in_err-early_item.field-0.0 (c.in_err-early_item.ensures ∙ z) in
     let first = advance_early _ _ _ _ _ some in
     record {
-      answers = advance_refused_as _ _ _ _ _ _ _ (sent_on _ _ c.from_residual.ensures.1 c.in_err-early_item.ensures (advance_early _ _ _ _ _)) (λ z. some (sym first ∙ z));
+      answers = advance_is _ _ _ _ _ _ _ _ _ (advance_refused_as _ _ _ _ _ c.args.budget _ (sent_on _ _ c.from_residual.ensures.1 c.in_err-early_item.ensures (advance_early _ _ _ _ _)) (λ z. some (sym first ∙ z)));
       within = IfOk-from_err _ _ c.from_residual.ensures.0;
     }
 
