@@ -10,14 +10,22 @@ use crate::tree::Tree;
 use integers::word_at;
 use model::Limits;
 
-// The serial of vertex v is that of no vertex before it, or unknown.
+// The serial of vertex v is that of no vertex before it, or unknown. All of them are compared, also behind one that is the same: the compiler then
+// compares several at once.
 fn is_new(serials: &[u32; Limits::ROWS], v: usize) -> bool
     requires { v < vertex_limit }
     ensures { result ≡ new_in serials.now v }
 {
     let own = serials[v];
     let unknown = own == 0;
-    unknown || serials[..v].iter().all(|x| *x != own)
+    if unknown {
+        return true;
+    }
+    let mut ok = true;
+    for x in 0..v {
+        ok &= serials[x] != own;
+    }
+    ok
 }
 
 impl<'a> Tree<'a> {

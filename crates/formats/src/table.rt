@@ -185,12 +185,16 @@ fn entry_ok(table: &[u8], row: usize, j: u8) -> bool
     integers::weight_ok(weight_in_row(table, row, j))
 }
 
-// So may the k weights of the row.
+// So may the k weights of the row. All are tested, also behind one that may not: the compiler then tests several at once.
 fn row_ok(table: &[u8], row: usize, k: u8) -> bool
     requires { column row k ≤ length table.now }
     ensures { result ≡ row_ok table.now row k }
 {
-    (0..k).all(|j| entry_ok(table, row, j))
+    let mut ok = true;
+    for j in 0..k {
+        ok &= entry_ok(table, row, j);
+    }
+    ok
 }
 
 // The first of the items 1 and 2 that applies to a table.

@@ -181,7 +181,11 @@ impl<'a> Records<'a> {
 fn merged(l: VertexTable, from: u8, to: u8) -> VertexTable
     ensures { result ≡ tab (λ x. cond (eqb (get_or l x 0) from) to (get_or l x 0)) vertex_limit }
 {
-    l.map(|y| if y == from { to } else { y })
+    let mut r = l;
+    for y in &mut r {
+        *y = if *y == from { to } else { *y };
+    }
+    r
 }
 
 // Each vertex a component of its own.

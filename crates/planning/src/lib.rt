@@ -107,7 +107,12 @@ fn behind_row(neighbours: &PlaceTable, starts: &[u8; Limits::PREFIXES], v: u8) -
     requires by_index { (y : ℕ) → get_or starts.now y 0 ≤ width_limit }
     ensures { BehindTo neighbours.now starts.now v degree_limit result }
 {
-    neighbours[v as usize].map(|x| behind_one(neighbours, starts, v, x))
+    let row = neighbours[v as usize];
+    let mut r = [0u8; Limits::PLACES];
+    for j in 0..Limits::PLACES {
+        r[j] = behind_one(neighbours, starts, v, row[j]);
+    }
+    r
 }
 
 // w is a vertex that comes after place `own` of the postorder.
