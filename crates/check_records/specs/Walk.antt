@@ -57,15 +57,15 @@ module _ {g : List ℕ} {weight : ℤ} {table r f : List ℕ} {plan places : Lis
           let K = found_known G.laid.inputs w.cursor.v rule_cursor.v_low in
           choice_is G P w.cursor.q at children (degree_in plan w.cursor.v) others (let a = K.degree in let b = rule_cursor.q_low in omega arith) refl N.rows (S.walked.place ∙ ap (record_at r f) S.walked.stands.is) N.columns
 
-      pub passing : (here : Bool) (long : ℕ) (c : Cursor) (k : ℕ) → CursorAt f k w.cursor.i w.cursor.v w.cursor.q →
-          here ≡ in_row table r f z w.cursor.i (offset f w.cursor.v + w.cursor.q) → long ≡ subproblem_length children others → Follows f w.cursor.i w.cursor.v w.cursor.q c.i c.v c.q →
-          Walked g' weight' table r f plan z (k + 1) (at + long) (record { ok = w.ok && here; cursor = c })
+      pub passing : (here : Bool) (next : ℕ) (c : Cursor) (k : ℕ) → CursorAt f k w.cursor.i w.cursor.v w.cursor.q →
+          here ≡ in_row table r f z w.cursor.i (offset f w.cursor.v + w.cursor.q) → next ≡ at + subproblem_length children others → Follows f w.cursor.i w.cursor.v w.cursor.q c.i c.v c.q →
+          Walked g' weight' table r f plan z (k + 1) next (record { ok = w.ok && here; cursor = c })
       unfolding in_row
-      passing here long c k C eh el F =
+      passing here next c k C eh en F =
           let e : k ≡ S.number = C.is ∙ sym S.walked.stands.is in
           record {
             room = P.gains.long;
-            place = rw (el, S.walked.place, e) (steps G.laid.inputs S.walked.stands S.more N).next;
+            place = rw (en, S.walked.place, e) (steps G.laid.inputs S.walked.stands S.more N).next;
             seen = rw e (every_step (subproblem_ok table r f z) S.number w.ok here S.walked.seen (eh ∙ ap (subproblem_ok table r f z) (sym S.walked.stands.is)));
             stands = F.next k C;
             pair = λ n. let e = F.same n in rw (e.0, e.1) P;
