@@ -19,9 +19,9 @@ use Rattle.model.specs.Order.{subproblems}
 use Rattle.model.specs.Tree.{count}
 use Rattle.records.specs.declared.cursor.Cursor.{Cursor}
 use Rattle.records.specs.declared.cursor.Walk.{Walk}
-use Rattle.records.specs.Cursor.{CursorAt, Follows, Counted, steps, walk_from, cursor_first}
-use Rattle.plan.specs.Plan.{Ready}
-use Rattle.records.specs.Places.{Inputs, ready_inputs, inputs_few}
+use Rattle.records.specs.declared.cursor.Step.{Step}
+use Rattle.records.specs.Cursor.{CursorAt, Follows, Counted, steps, walk_first, cursor_first}
+use Rattle.records.specs.Places.{Inputs, inputs_few}
 use Rattle.check_front.specs.Weighing.{PartnersOf}
 
 -- ---- record j: 0 is the head, then a partner for each recorded vertex, then the subproblems' records
@@ -69,24 +69,24 @@ module _ (r f : List ℕ) where
 -- ---- what is known after the first records
 
 -- one record more, of so many bytes
-abbrev pub moved_on : Walk → Bool → ℕ → Cursor → Walk
-moved_on w here long c = record { at = w.at + long; ok = w.ok && here; cursor = c }
+abbrev pub moved_on : ℕ → Walk → Bool → ℕ → Cursor → Step
+moved_on at w here long c = record { next = at + long; walk = record { ok = w.ok && here; cursor = c } }
 
 -- j are passed, and the next begins at `at`
-pub record Walked (r f z : List ℕ) (j : ℕ) (w : Walk) : Type 0 where
-  pub place : w.at ≡ place_of r f j
+pub record Walked (r f z : List ℕ) (j at : ℕ) (w : Walk) : Type 0 where
+  pub place : at ≡ place_of r f j
   pub seen : w.ok ≡ every (marked_at r f z) j
   pub stands : CursorAt f (j - (count r + 1)) w.cursor.i w.cursor.v w.cursor.q
 
 -- and there is another, in a certificate of the right length
-pub record Stepping (r f : List ℕ) (plan : List (List ℕ)) (z : List ℕ) (j : ℕ) (w : Walk) : Type 0 where
+pub record Stepping (r f : List ℕ) (plan : List (List ℕ)) (z : List ℕ) (j at : ℕ) (w : Walk) : Type 0 where
   pub inputs : Inputs r f plan
   pub long : length z ≡ certificate_length r f
-  pub walked : Walked r f z j w
+  pub walked : Walked r f z j at w
   pub more : j < count r + 1 + subproblems r f
 
 -- none is passed yet
-pub walked_none : {r f : List ℕ} {plan : List (List ℕ)} (z : List ℕ) → Inputs r f plan → Walked r f z 0 (walk_from 0)
+pub walked_none : {r f : List ℕ} {plan : List (List ℕ)} (z : List ℕ) → Inputs r f plan → Walked r f z 0 0 walk_first
 unfolding place_of every
 walked_none {r} z I = record { place = refl; seen = refl; stands = let e : 0 - (count r + 1) ≡ 0 = omega arith in rw e (cursor_first I) }
 
@@ -97,12 +97,12 @@ pub front_inside : (r f z : List ℕ) → length z ≡ certificate_length r f �
 unfolding certificate_length
 front_inside r f z e = omega arith
 
-pub stepped : {r f z : List ℕ} {j : ℕ} {w : Walk} (here : Bool) (c : Cursor) (long : ℕ) → Walked r f z j w → here ≡ marked_at r f z j → w.at + long ≡ place_of r f (j + 1) →
-    CursorAt f (j + 1 - (count r + 1)) c.i c.v c.q → Walked r f z (j + 1) (moved_on w here long c)
-stepped {r} {f} {z} {j} {w} here c long W e p s = record { place = p; seen = every_step (marked_at r f z) j w.ok here W.seen e; stands = s }
+pub stepped : {r f z : List ℕ} {j at : ℕ} {w : Walk} (here : Bool) (c : Cursor) (long : ℕ) → Walked r f z j at w → here ≡ marked_at r f z j → at + long ≡ place_of r f (j + 1) →
+    CursorAt f (j + 1 - (count r + 1)) c.i c.v c.q → Walked r f z (j + 1) (at + long) (record { ok = w.ok && here; cursor = c })
+stepped {r} {f} {z} {j} {w = w} here c long W e p s = record { place = p; seen = every_step (marked_at r f z) j w.ok here W.seen e; stands = s }
 
-module _ {r f : List ℕ} {plan : List (List ℕ)} {z : List ℕ} {j : ℕ} {w : Walk} (S : Stepping r f plan z j w) where
-  W : Walked r f z j w
+module _ {r f : List ℕ} {plan : List (List ℕ)} {z : List ℕ} {j at : ℕ} {w : Walk} (S : Stepping r f plan z j at w) where
+  W : Walked r f z j at w
   W = S.walked
 
   -- up to the first record the cursor stays where it is
@@ -114,12 +114,12 @@ module _ {r f : List ℕ} {plan : List (List ℕ)} {z : List ℕ} {j : ℕ} {w :
 
   -- the head
   module _ (e : j ≡ 0) where
-    pub head_at : (w.at ≡ 0) × (w.at + certificate_head_length ≤ length z)
+    pub head_at : (at ≡ 0) × (at + certificate_head_length ≤ length z)
     unfolding place_of
-    head_at = let a : w.at ≡ 0 = W.place ∙ rw e in let b = front_inside r f z S.long in (a, omega arith)
+    head_at = let a : at ≡ 0 = W.place ∙ rw e in let b = front_inside r f z S.long in (a, omega arith)
 
-    pub head_stepped : (here : Bool) (n k long : ℕ) → n ≡ count r → k ≡ count f → long ≡ certificate_head_length → here ≡ (is_mark z w.at head_mark && (eqb (byte_at z (w.at + 2)) n && eqb (byte_at z (w.at + 3)) k)) →
-        Walked r f z (j + 1) (moved_on w here long w.cursor)
+    pub head_stepped : (here : Bool) (n k long : ℕ) → n ≡ count r → k ≡ count f → long ≡ certificate_head_length → here ≡ (is_mark z at head_mark && (eqb (byte_at z (at + 2)) n && eqb (byte_at z (at + 3)) k)) →
+        Walked r f z (j + 1) (at + long) (record { ok = w.ok && here; cursor = w.cursor })
     head_stepped here n k long en ek el h =
         stepped here w.cursor long W
         (h ∙ rw (en, ek, head_at.0, e) (sym (marked_head r f z)))
@@ -128,10 +128,10 @@ module _ {r f : List ℕ} {plan : List (List ℕ)} {z : List ℕ} {j : ℕ} {w :
 
   -- a partner, of u
   module _ (u : ℕ) (e : j ≡ u + 1) (l : u < count r) where
-    pub partner_at_lem : (w.at ≡ partner_at u) × (w.at + partner_length ≤ length z)
-    partner_at_lem = let a : w.at ≡ partner_at u = W.place ∙ rw e (place_partner r f u (omega arith)) in let b = front_inside r f z S.long in (a, omega arith)
+    pub partner_at_lem : (at ≡ partner_at u) × (at + partner_length ≤ length z)
+    partner_at_lem = let a : at ≡ partner_at u = W.place ∙ rw e (place_partner r f u (omega arith)) in let b = front_inside r f z S.long in (a, omega arith)
 
-    pub partner_stepped : (here : Bool) (long : ℕ) → long ≡ partner_length → here ≡ is_mark z w.at partner_mark → Walked r f z (j + 1) (moved_on w here long w.cursor)
+    pub partner_stepped : (here : Bool) (long : ℕ) → long ≡ partner_length → here ≡ is_mark z at partner_mark → Walked r f z (j + 1) (at + long) (record { ok = w.ok && here; cursor = w.cursor })
     partner_stepped here long el h =
         let next : partner_at u + partner_length ≡ partner_at (u + 1) = omega arith in
         stepped here w.cursor long W
@@ -147,15 +147,15 @@ module _ {r f : List ℕ} {plan : List (List ℕ)} {z : List ℕ} {j : ℕ} {w :
     pub record_cursor : CursorAt f k w.cursor.i w.cursor.v w.cursor.q
     record_cursor = let a : j - (count r + 1) ≡ k = omega arith in rw (← a) W.stands
 
-    here_at : w.at ≡ record_at r f k
+    here_at : at ≡ record_at r f k
     here_at = W.place ∙ rw e (place_record r f k)
 
     module _ {children others : ℕ} (N : Counted r f plan w.cursor.i w.cursor.v w.cursor.q children others) where
-      pub record_at_lem : w.at + subproblem_length children others ≤ length z
+      pub record_at_lem : at + subproblem_length children others ≤ length z
       record_at_lem = let a = (steps S.inputs record_cursor record_low N).ends in let b = S.long in let d = here_at in omega arith
 
-      pub record_stepped : (here : Bool) (long : ℕ) (c : Cursor) → long ≡ subproblem_length children others → here ≡ is_mark z w.at record_mark → Follows f w.cursor.i w.cursor.v w.cursor.q c.i c.v c.q →
-          Walked r f z (j + 1) (moved_on w here long c)
+      pub record_stepped : (here : Bool) (long : ℕ) (c : Cursor) → long ≡ subproblem_length children others → here ≡ is_mark z at record_mark → Follows f w.cursor.i w.cursor.v w.cursor.q c.i c.v c.q →
+          Walked r f z (j + 1) (at + long) (record { ok = w.ok && here; cursor = c })
       record_stepped here long c el h F =
           let i : j + 1 ≡ count r + 1 + (k + 1) = omega arith in
           let d : count r + 1 + (k + 1) - (count r + 1) ≡ k + 1 = omega arith in
@@ -191,10 +191,16 @@ noted_more {r} {z} {p} at u l e N =
 pub noted_kept : {r z p : List ℕ} (j : ℕ) → count r < j → Noted r z p j → Noted r z p (j + 1)
 noted_kept j l N = record { long = N.long; get = λ u h t. N.get u h (omega arith) }
 
+-- ---- a step of the walk: what it asks
+
+pub record Reading (r f : List ℕ) (plan : List (List ℕ)) (p z : List ℕ) (j at : ℕ) (w : Walk) : Type 0 where
+  pub stepping : Stepping r f plan z j at w
+  pub noted : Noted r z p j
+
 -- ---- the walk: what is known once j records are passed, and at its end
 
-pub record Marked (r f p z : List ℕ) (j : ℕ) (w : Walk) : Type 0 where
-  pub walked : Walked r f z j w
+pub record Marked (r f p z : List ℕ) (j at : ℕ) (w : Walk) : Type 0 where
+  pub walked : Walked r f z j at w
   pub noted : Noted r z p j
 
 -- the answer is item 20's, and the partners are the certificate's mapping
@@ -233,13 +239,13 @@ module _ (r f z : List ℕ) where
       let a : length (take (count r) p) ≡ count r = length-take-le (count r) p (omega arith) in
       ext_get_or 0 _ _ (a ∙ sym (length_tab g (count r))) (λ u l. let t : u < count r = omega arith in get_or-take (count r) p u 0 t ∙ N.get u t (omega arith) ∙ sym (get_d_tab g (count r) u 0 t))
 
-pub stepping : {table r f p z : List ℕ} {plan : List (List ℕ)} {j : ℕ} {w : Walk} → Ready table r f plan → length z ≡ certificate_length r f → Marked r f p z j w → j < count r + 1 + subproblems r f → Stepping r f plan z j w
-stepping N long M h = record { inputs = ready_inputs N; long = long; walked = M.walked; more = h }
+pub reading : {r f p z : List ℕ} {plan : List (List ℕ)} {j at : ℕ} {w : Walk} → Inputs r f plan → length z ≡ certificate_length r f → Marked r f p z j at w → j < count r + 1 + subproblems r f → Reading r f plan p z j at w
+reading I long M h = record { stepping = record { inputs = I; long = long; walked = M.walked; more = h }; noted = M.noted }
 
-pub marked_none : {r f p : List ℕ} {plan : List (List ℕ)} (z : List ℕ) → Inputs r f plan → length p ≡ vertex_limit → Marked r f p z 0 (walk_from 0)
+pub marked_none : {r f p : List ℕ} {plan : List (List ℕ)} (z : List ℕ) → Inputs r f plan → length p ≡ vertex_limit → Marked r f p z 0 0 walk_first
 marked_none {r} {p = p} z I e = record { walked = walked_none z I; noted = noted_none r z p e }
 
-pub marked_end : {r f p z : List ℕ} {plan : List (List ℕ)} {j : ℕ} {w : Walk} → Inputs r f plan → length z ≡ certificate_length r f → j ≡ count r + 1 + subproblems r f → Marked r f p z j w → AllRead r f p z w.ok
+pub marked_end : {r f p z : List ℕ} {plan : List (List ℕ)} {j at : ℕ} {w : Walk} → Inputs r f plan → length z ≡ certificate_length r f → j ≡ count r + 1 + subproblems r f → Marked r f p z j at w → AllRead r f p z w.ok
 marked_end {r} {f} {p} {z} {j = j} I long c M = record {
   shaped = M.walked.seen ∙ rw c (marks_all r f z long);
   partners = record { long = M.noted.long; front = mapped_all r f z p j (inputs_few I).0 (omega arith) M.noted };

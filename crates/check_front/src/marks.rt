@@ -5,15 +5,16 @@ ghost use Rattle.model.specs.Bytes.{byte_at, is_mark};
 ghost use Rattle.model.specs.Certificate.{head_mark};
 ghost use Rattle.model.specs.Order.{subproblems};
 ghost use Rattle.model.specs.Tree.{count};
-ghost use Rattle.check_front.specs.Marks.{moved_on, Marked};
+ghost use Rattle.check_front.specs.Marks.{moved_on, Reading, Marked};
 
 use formats::marks::is_mark;
+use formats::tree::vertex_count;
 use lengths::{certificate_head_length, partner_length, subproblem_length};
 use model::Mapping;
+use plan::Plan;
 use plan::counts::subproblem_count;
 use plan::instance::Instance;
-use records::cursor::{Cursor, Walk, counts_of, next};
-use records::sheet::Sheet;
+use records::cursor::{Cursor, Step, Walk, counts_of, next};
 
 // How many records a certificate has: the head, a partner for each recorded vertex and a record for each subproblem.
 pub fn mark_count(on: &Instance) -> usize
@@ -22,15 +23,18 @@ pub fn mark_count(on: &Instance) -> usize
     1 + on.n() + subproblem_count(on.recorded, on.found)
 }
 
-// One record more, of so many bytes, `here` if it is as it must be; c is the cursor after it.
-fn moved(walk: Walk, here: bool, bytes: usize, c: Cursor) -> Walk
-    requires { walk.at + bytes < 2 ^ 32 }
-    ensures { result ≡ moved_on walk here bytes c }
+// One record more, of so many bytes from `at` on, `here` if it is as it must be; c is the cursor after it.
+fn moved(at: usize, walk: Walk, here: bool, bytes: usize, c: Cursor) -> Step
+    requires { at + bytes < 2 ^ 32 }
+    ensures { result ≡ moved_on at walk here bytes c }
 {
-    Walk {
-        at: walk.at + bytes,
+    let walk = Walk {
         ok: walk.ok & here,
         cursor: c,
+    };
+    Step {
+        next: at + bytes,
+        walk,
     }
 }
 
@@ -43,24 +47,33 @@ fn is_head(z: &[u8], at: usize, n: usize, m: usize) -> bool
     a & ((z[at + 2] as usize == n) & (z[at + 3] as usize == m))
 }
 
-// The next record, before which so many were passed, and on to the one after it. A partner is noted in p.
-pub fn mark_step(sheet: &Sheet, p: &mut Mapping, number: usize, walk: Walk) -> Walk
-    requires marked { Marked sheet.now.on.now.recorded.now sheet.now.on.now.found.now p.old sheet.now.certificate.now number walk }
-    requires more { number < count sheet.now.on.now.recorded.now + 1 + subproblems sheet.now.on.now.recorded.now sheet.now.on.now.found.now }
-    ensures { Marked sheet.now.on.now.recorded.now sheet.now.on.now.found.now p.new sheet.now.certificate.now (number + 1) result }
+// The record at `at`, before which so many were passed, and on to the next. A partner is noted in p.
+pub fn mark_step(
+    recorded: &[u8],
+    found: &[u8],
+    plan: &Plan,
+    p: &mut Mapping,
+    z: &[u8],
+    at: usize,
+    number: usize,
+    walk: Walk,
+) -> Step
+    requires { Reading recorded.now found.now plan.now p.old z.now number at walk }
+    ensures { Marked recorded.now found.now p.new z.now (number + 1) result.next result.walk }
 {
-    let z = sheet.certificate;
+    let n = vertex_count(recorded);
     if number == 0 {
-        let here = is_head(z, walk.at, sheet.on.n(), sheet.on.m());
-        return moved(walk, here, certificate_head_length(), walk.cursor);
+        let here = is_head(z, at, n, vertex_count(found));
+        return moved(at, walk, here, certificate_head_length(), walk.cursor);
     }
-    if number <= sheet.on.n() {
-        let here = is_mark(z, walk.at, b"\xC1\x02");
-        p[number - 1] = z[walk.at + 2];
-        return moved(walk, here, partner_length(), walk.cursor);
+    if number <= n {
+        let here = is_mark(z, at, b"\xC1\x02");
+        p[number - 1] = z[at + 2];
+        return moved(at, walk, here, partner_length(), walk.cursor);
     }
-    let counts = counts_of(sheet.on, walk.cursor);
-    let here = is_mark(z, walk.at, b"\xC1\x03");
+    let counts = counts_of(recorded, found, plan, walk.cursor);
+    let here = is_mark(z, at, b"\xC1\x03");
     let bytes = subproblem_length(counts.children as u8, counts.others as u8);
-    moved(walk, here, bytes, next(sheet.on, walk.cursor))
+    let c = next(recorded, found, plan, walk.cursor);
+    moved(at, walk, here, bytes, c)
 }

@@ -1,5 +1,6 @@
 //! Items 21 and 22: the certificate's mapping and its weight.
-ghost use Rattle.std.specs.Prelude.{◌≡◌};
+ghost use Rattle.std.specs.Prelude.{◌≡◌, length};
+ghost use Rattle.model.specs.Certificate.{certificate_length};
 ghost use Rattle.model.specs.Refusals.{refusal_in};
 ghost use Rattle.check_front.specs.Weighing.{PartnersOf, mapping_item};
 
@@ -7,18 +8,19 @@ use integers::int32_at;
 use mappings::mapping_ok;
 use mappings::weigh::weigh;
 use model::{Mapping, Refusal};
-use records::sheet::Sheet;
+use plan::instance::Instance;
 
-// The first of the items 21 and 22 that applies. The certificate's partners are p.
-pub fn mapping_item(sheet: &Sheet, p: &Mapping) -> Result<(), Refusal>
-    requires { PartnersOf sheet.now.on.now.recorded.now sheet.now.certificate.now p.now }
-    ensures { refusal_in result ≡ mapping_item sheet.now.on.now.table.now sheet.now.on.now.recorded.now sheet.now.on.now.found.now sheet.now.certificate.now }
+// The first of the items 21 and 22 that applies. The certificate has the right length, and its partners are p.
+pub fn mapping_item(on: &Instance, z: &[u8], p: &Mapping) -> Result<(), Refusal>
+    requires z_len { length z.now ≡ certificate_length on.now.recorded.now on.now.found.now }
+    requires partners_of { PartnersOf on.now.recorded.now z.now p.now }
+    ensures { refusal_in result ≡ mapping_item on.now.table.now on.now.recorded.now on.now.found.now z.now }
 {
-    if !mapping_ok(sheet.on, p) {
+    if !mapping_ok(on, p) {
         return Err(Refusal::CertificateMapping);
     }
-    let w = weigh(sheet.on, p);
-    let v = int32_at(sheet.certificate, 4);
+    let w = weigh(on, p);
+    let v = int32_at(z, 4);
     if v != w {
         return Err(Refusal::CertificateWeight);
     }

@@ -29,11 +29,11 @@ use records::cursor::Walk;
 use records::sheet::Sheet;
 use records::{Places, begin, places_of};
 
-// A certificate, and how far it is read: the walk has the place where the next of it is read.
+// A certificate and the place where the next of it is read.
 #[derive(Drop)]
 pub struct Reader<'a> {
-    pub sheet: &'a Sheet<'a>,
-    pub walk: Walk,
+    pub certificate: &'a [u8],
+    pub at: usize,
 }
 
 // The first walk, item 20: the head, partner by partner, record by record, whether each is as it must be. The partners are noted in p.
@@ -41,34 +41,58 @@ fn marks(sheet: &Sheet, p: &mut Mapping) -> bool
     requires { length p.old ≡ vertex_limit }
     ensures { AllRead sheet.now.on.now.recorded.now sheet.now.on.now.found.now p.new sheet.now.certificate.now result }
 {
+    let on = sheet.on;
     let mut reader = Reader {
-        sheet,
-        walk: Walk::from(0),
+        certificate: sheet.certificate,
+        at: 0,
     };
-    let count = mark_count(sheet.on);
+    let mut walk = Walk::first();
+    let count = mark_count(on);
     for number in 0..count {
-        reader.walk = mark_step(reader.sheet, p, number, reader.walk);
+        let step = mark_step(
+            on.recorded,
+            on.found,
+            on.plan,
+            p,
+            reader.certificate,
+            reader.at,
+            number,
+            walk,
+        );
+        reader.at = step.next;
+        walk = step.walk;
     }
-    reader.walk.ok
+    walk.ok
 }
 
 // The second walk, item 23: record by record, whether each keeps the rules.
 fn rules(sheet: &Sheet) -> bool
     ensures { result ≡ every (subproblem_ok sheet.now.on.now.table.now sheet.now.on.now.recorded.now sheet.now.on.now.found.now sheet.now.certificate.now) (subproblems sheet.now.on.now.recorded.now sheet.now.on.now.found.now) }
 {
+    let on = sheet.on;
     let mut reader = Reader {
-        sheet,
-        walk: Walk::from(begin(sheet.places, 0)),
+        certificate: sheet.certificate,
+        at: begin(sheet.places, 0),
     };
+    let mut walk = Walk::first();
     let mut pair = PairGains {
         weight: 0,
         gains: [0u64; Limits::PAIRS],
     };
-    let count = subproblem_count(sheet.on.recorded, sheet.on.found);
+    let count = subproblem_count(on.recorded, on.found);
     for _number in 0..count {
-        reader.walk = rule_step(reader.sheet, &mut pair, reader.walk);
+        let step = rule_step(
+            on,
+            sheet.places,
+            &mut pair,
+            reader.certificate,
+            reader.at,
+            walk,
+        );
+        reader.at = step.next;
+        walk = step.walk;
     }
-    reader.walk.ok
+    walk.ok
 }
 
 // The items 23 and 24, after those before them: the first that applies.
@@ -78,7 +102,13 @@ fn records_item(sheet: &Sheet) -> Result<(), Refusal>
     if !rules(sheet) {
         return Err(Refusal::CertificateRecord);
     }
-    if !is_greatest(sheet) {
+    if !is_greatest(
+        sheet.on.recorded,
+        sheet.on.found,
+        sheet.on.plan,
+        sheet.places,
+        sheet.certificate,
+    ) {
         return Err(Refusal::CertificateAnswer);
     }
     Ok(())
@@ -102,7 +132,7 @@ fn certificate_item(on: &Instance, places: &Places, certificate: &[u8]) -> Resul
     if !marks(&sheet, &mut partners) {
         return Err(Refusal::CertificateShape);
     }
-    mapping_item(&sheet, &partners)?;
+    mapping_item(on, certificate, &partners)?;
     records_item(&sheet)
 }
 
@@ -125,7 +155,7 @@ fn first_item(
         plan: &plan,
     };
     let mut places = [[0u32; 2]; Limits::PREFIXES];
-    places_of(&mut places, &on);
+    places_of(&mut places, recorded, found, &plan);
     certificate_item(&on, &places, certificate)
 }
 

@@ -3,30 +3,44 @@ ghost use Rattle.std.specs.Prelude.{◌+◌, ◌*◌, ◌<◌, ◌≡◌, length
 ghost use Rattle.model.specs.Limits.{pair_limit};
 ghost use Rattle.model.specs.Graph.{neighbours};
 ghost use Rattle.model.specs.Order.{children, width};
-ghost use Rattle.model.specs.Certificate.{value_in, value_of};
+ghost use Rattle.model.specs.Certificate.{certificate_length, value_in, value_of};
 ghost use Rattle.plan.specs.Plan.{Pair};
 ghost use Rattle.plan.specs.Pairs.{gain_at, RowFilled, Filled};
-ghost use Rattle.records.specs.Places.{RowBegins};
+ghost use Rattle.records.specs.Places.{Laid, RowBegins};
 ghost use Rattle.check_records.specs.Gains.{Sits};
 
 use integers::int32_at;
 use model::{Gains, Limits};
 use plan::weights::{edge_pair, gain_of};
 use plan::{
-    behind, child_count, child_edge, child_place, degree, neighbour, neighbour_edge,
+    Plan, behind, child_count, child_edge, child_place, degree, neighbour, neighbour_edge,
     offset as offset_of,
 };
 use records::sheet::{RecordRow, Sheet};
+use records::{Places, record_in};
 
 // The recorded value of a subproblem of x and the row's vertex: its place among those of that vertex is b.
-pub(crate) fn value_in(sheet: &Sheet, row: RecordRow, x: u8, b: usize) -> i32
-    requires begins { RowBegins sheet.now.on.now.recorded.now sheet.now.on.now.found.now row.i row.first row.own }
-    requires sits { Sits sheet.now.on.now.found.now x b }
-    ensures { result ≡ value_in sheet.now.on.now.recorded.now sheet.now.on.now.found.now sheet.now.certificate.now (row.i * width sheet.now.on.now.found.now + b) }
+pub(crate) fn value_in(
+    recorded: &[u8],
+    found: &[u8],
+    plan: &Plan,
+    places: &Places,
+    certificate: &[u8],
+    row: RecordRow,
+    x: u8,
+    b: usize,
+) -> i32
+    requires laid { Laid recorded.now found.now plan.now places.now }
+    requires certificate_len { length certificate.now ≡ certificate_length recorded.now found.now }
+    requires begins { RowBegins recorded.now found.now row.i row.first row.own }
+    requires sits { Sits found.now x b }
+    ensures { result ≡ value_in recorded.now found.now certificate.now (row.i * width found.now + b) }
 {
-    let q = b - offset_of(sheet.on.plan, x);
-    let at = sheet.record_in(row, x, q);
-    int32_at(sheet.certificate, at + 2)
+    let q = b - offset_of(plan, x);
+    let at = record_in(
+        recorded, found, plan, places, row.i, row.first, row.own, x, q,
+    );
+    int32_at(certificate, at + 2)
 }
 
 // The gains of u's i-th child with each neighbour of v, as row i of the table.
@@ -43,7 +57,16 @@ fn gain_row(g: &mut Gains, sheet: &Sheet, u: u8, v: u8, i: usize)
     for j in 0..l {
         let x = neighbour(plan, v, j);
         let b = behind(plan, v, j);
-        let y = value_in(sheet, row, x, b);
+        let y = value_in(
+            sheet.on.recorded,
+            sheet.on.found,
+            plan,
+            sheet.places,
+            sheet.certificate,
+            row,
+            x,
+            b,
+        );
         let t = gain_of(
             edge_pair(sheet.on.table, edge, neighbour_edge(plan, v, j)),
             y,

@@ -46,9 +46,9 @@ pub record CursorIn (r f : List ℕ) (plan : List (List ℕ)) (i v q : ℕ) : Ty
 pub cursor_in : {r f : List ℕ} {plan : List (List ℕ)} {k i v q : ℕ} → Inputs r f plan → CursorAt f k i v q → k < subproblems r f → CursorIn r f plan i v q
 cursor_in {r} I C l = record { inputs = I; i_low = cursor_low r C l; v_low = C.v_low; q_low = C.q_low }
 
--- a walk that begins at a record
-abbrev pub walk_from : ℕ → Walk
-walk_from at = record { at = at; ok = true; cursor = record { i = 0; v = 0; q = 0 } }
+-- a walk that begins at the first record
+abbrev pub walk_first : Walk
+walk_first = record { ok = true; cursor = record { i = 0; v = 0; q = 0 } }
 
 -- ---- the next one
 

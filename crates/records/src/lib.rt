@@ -7,19 +7,21 @@ pub mod sheet;
 
 ghost use Rattle.std.specs.Prelude.{◌+◌, ◌*◌, ◌<◌, ◌≤◌, ◌≡◌, length};
 ghost use Rattle.model.specs.Lengths.{subproblem_length};
-ghost use Rattle.model.specs.Limits.{vertex_limit, degree_limit, prefix_limit};
+ghost use Rattle.model.specs.Limits.{vertex_limit, degree_limit, certificate_limit, prefix_limit};
 ghost use Rattle.model.specs.Tree.{count};
-ghost use Rattle.model.specs.Certificate.{partner_at};
+ghost use Rattle.model.specs.Graph.{neighbours};
+ghost use Rattle.model.specs.Order.{width, offset};
+ghost use Rattle.model.specs.Certificate.{partner_at, record_at};
 ghost use Rattle.plan.specs.Plan.{child_count_in, order_in};
 ghost use Rattle.certificate.specs.Places.{others_before};
-ghost use Rattle.records.specs.Places.{begin_in, squares_in, SquaresTo, Laid};
+ghost use Rattle.records.specs.Places.{begin_in, squares_in, Inputs, SquaresTo, Laid, RowBegins};
 ghost use Rattle.records.specs.Others.{others_of, column_in};
 
+use formats::tree::vertex_count;
 use lengths::{certificate_head_length, partner_length, subproblem_length};
 use model::Limits;
 use plan::counts::width_of;
-use plan::instance::Instance;
-use plan::{Plan, child_count, degree, in_order};
+use plan::{Plan, child_count, degree, in_order, offset as offset_of};
 
 // ---- the neighbours of v other than s
 
@@ -79,7 +81,7 @@ fn squares(places: &Places, v: usize) -> usize
 }
 
 // What a record of the i-th vertex in postorder has beside the duals of v's neighbours: mark, value, a dual for each child.
-fn size(plan: &Plan, i: usize) -> usize
+pub fn size(plan: &Plan, i: usize) -> usize
     requires { (i < vertex_limit) × (order_in plan.now i < vertex_limit) × (child_count_in plan.now (order_in plan.now i) ≤ degree_limit) }
     ensures { result ≡ subproblem_length (child_count_in plan.now (order_in plan.now i)) 0 }
 {
@@ -96,34 +98,58 @@ pub fn records_begin(n: usize) -> usize
 }
 
 // The sums of squares, each in its place.
-fn square_sums(p: &mut Places, on: &Instance)
-    requires { length p.old ≡ prefix_limit }
-    ensures { SquaresTo on.now.found.now (count on.now.found.now) p.new }
+fn square_sums(p: &mut Places, recorded: &[u8], found: &[u8], plan: &Plan)
+    requires p_len { length p.old ≡ prefix_limit }
+    requires inputs { Inputs recorded.now found.now plan.now }
+    ensures { SquaresTo found.now (count found.now) p.new }
 {
-    let m = on.m();
+    let m = vertex_count(found);
     p[0] = [0, 0];
     let mut sum: usize = 0;
     for v in 0..m {
-        let d = degree(on.plan, v as u8);
+        let d = degree(plan, v as u8);
         sum += d * d;
         p[v + 1] = [0, sum as u32];
     }
 }
 
 // Where the records stand, over whatever stood there.
-pub fn places_of(p: &mut Places, on: &Instance)
-    requires { length p.old ≡ prefix_limit }
-    ensures { Laid on.now.recorded.now on.now.found.now on.now.plan.now p.new }
+pub fn places_of(p: &mut Places, recorded: &[u8], found: &[u8], plan: &Plan)
+    requires p_len { length p.old ≡ prefix_limit }
+    requires inputs { Inputs recorded.now found.now plan.now }
+    ensures { Laid recorded.now found.now plan.now p.new }
 {
-    let n = on.n();
-    let w = width_of(on.found);
-    square_sums(p, on);
-    let all = squares(p, on.m());
+    let n = vertex_count(recorded);
+    let w = width_of(found);
+    square_sums(p, recorded, found, plan);
+    let all = squares(p, vertex_count(found));
     let mut at = records_begin(n);
     p[0] = [at as u32, 0];
     for i in 0..n {
-        at += w * size(on.plan, i) + 4 * all;
+        at += w * size(plan, i) + 4 * all;
         let s = p[i + 1][1];
         p[i + 1] = [at as u32, s];
     }
+}
+
+// Where the record of the i-th vertex in postorder, v, and the q-th choice of s for v begins; the vertex's records begin at `first` and have `own` bytes
+// beside the duals of v's neighbours.
+pub fn record_in(
+    recorded: &[u8],
+    found: &[u8],
+    plan: &Plan,
+    places: &Places,
+    i: usize,
+    first: usize,
+    own: usize,
+    v: u8,
+    q: usize,
+) -> usize
+    requires laid { Laid recorded.now found.now plan.now places.now }
+    requires row_begins { RowBegins recorded.now found.now i first own }
+    requires v_bound { (v < count found.now) × (q ≤ length (neighbours found.now v)) }
+    ensures { (result ≡ record_at recorded.now found.now (i * width found.now + (offset found.now v + q))) × (result + subproblem_length 0 0 ≤ certificate_limit) }
+{
+    let o = others_before(degree(plan, v), q);
+    first + (offset_of(plan, v) + q) * own + 4 * (squares(places, v as usize) + o)
 }

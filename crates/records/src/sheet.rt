@@ -8,9 +8,8 @@ ghost use Rattle.model.specs.Order.{width, offset};
 ghost use Rattle.model.specs.Certificate.{certificate_length, record_at};
 ghost use Rattle.records.specs.Places.{PlacesTo, RowBegins};
 
-use crate::{Places, begin, others_before, size, squares};
+use crate::{Places, begin, record_in, size};
 use plan::instance::Instance;
-use plan::{degree, offset as offset_of};
 
 // A certificate as long as one of its instance is, and where the records of such a one stand.
 #[derive(Clone, Copy)]
@@ -50,9 +49,16 @@ impl<'a> Sheet<'a> {
         requires v_bound { (v < count self.now.on.now.found.now) × (q ≤ length (neighbours self.now.on.now.found.now v)) }
         ensures { (result ≡ record_at self.now.on.now.recorded.now self.now.on.now.found.now (row.i * width self.now.on.now.found.now + (offset self.now.on.now.found.now v + q))) × (result + subproblem_length 0 0 ≤ certificate_limit) }
     {
-        let o = others_before(degree(self.on.plan, v), q);
-        row.first
-            + (offset_of(self.on.plan, v) + q) * row.own
-            + 4 * (squares(self.places, v as usize) + o)
+        record_in(
+            self.on.recorded,
+            self.on.found,
+            self.on.plan,
+            self.places,
+            row.i,
+            row.first,
+            row.own,
+            v,
+            q,
+        )
     }
 }

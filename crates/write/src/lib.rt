@@ -53,7 +53,7 @@ pub fn write_certificate(
         plan: &plan,
     };
     let mut places = [[0u32; 2]; Limits::PREFIXES];
-    places_of(&mut places, &on);
+    places_of(&mut places, recorded, found, &plan);
     let l = begin(&places, on.n());
     if certificate.len() < l {
         return Err(Refusal::CertificateShort);

@@ -16,3 +16,6 @@ make-requires-clause-sound_2 c = (input_sound _ _ _ (sym c.in_ok-input_item.ensu
 
 pub invariant_of-on : goal.invariant_of-on
 invariant_of-on c = record { ready = record { passes = sym c.in_ok-input_item.ensures; planned = c.make.ensures } }
+
+pub places_of-requires-clause-inputs : goal.places_of-requires-clause-inputs
+places_of-requires-clause-inputs c = record { table = c.args.table.now; ready = record { passes = sym c.in_ok-input_item.ensures; planned = c.make.ensures } }

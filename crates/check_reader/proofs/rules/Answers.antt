@@ -11,9 +11,9 @@ subproblem_count-count-requires c = record { sound = ready_recorded c.args.sheet
 pub loop-number-init : goal.loop-number-init
 loop-number-init c =
     let sheet = c.args.sheet.now in
-    record { same = refl; walked = rw (c.from.ensures, c.begin.ensures) (walked_none _ _ (given sheet.on.now.ready sheet.stand sheet.long) refl) }
+    record { same = refl; walked = rw (c.first-walk.ensures, c.begin.ensures) (walked_none _ _ (given sheet.on.now.ready sheet.stand sheet.long) refl) }
 
 pub loop-number-preserved : goal.loop-number-preserved
 loop-number-preserved c =
     let e = c.loop-number.invariant.same in
-    record { same = e; walked = (rw e at c.rule_step-reader.ensures) _ c.loop-number.invariant.walked.stands }
+    record { same = e; walked = (rw e at c.rule_step-step.ensures) _ c.loop-number.invariant.walked.stands }

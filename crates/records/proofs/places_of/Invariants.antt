@@ -8,4 +8,4 @@ use Rattle.records.specs.Places.{PlacesTo}
 use Rattle.records.proofs.places_of.Given as goal
 
 abbrev pub invariant-loop-i : goal.invariant-loop-i
-invariant-loop-i l = (l.w ≡ width l.on.found.now) × (l.all ≡ squares l.on.found.now (count l.on.found.now)) × (l.at ≡ record_at l.on.recorded.now l.on.found.now (l.i * width l.on.found.now)) × PlacesTo l.on.recorded.now l.on.found.now l.i l.p
+invariant-loop-i l = (l.w ≡ width l.found) × (l.all ≡ squares l.found (count l.found)) × (l.at ≡ record_at l.recorded l.found (l.i * width l.found)) × PlacesTo l.recorded l.found l.i l.p

@@ -5,4 +5,4 @@ use Rattle.records.specs.Places.{SquaresTo}
 use Rattle.records.proofs.square_sums.Given as goal
 
 abbrev pub invariant-loop-v : goal.invariant-loop-v
-invariant-loop-v l = (l.sum ≡ squares l.on.found.now l.v) × SquaresTo l.on.found.now l.v l.p
+invariant-loop-v l = (l.sum ≡ squares l.found l.v) × SquaresTo l.found l.v l.p

@@ -30,6 +30,11 @@ make-requires-clause-sound_2 c = (input_sound _ _ _ (start_passed _ _ _ _ (sym c
 pub invariant_of-on : goal.invariant_of-on
 invariant_of-on c = record { ready = record { passes = (start_passed _ _ _ _ (sym c.in_ok-start_item.ensures)).0; planned = c.make.ensures } }
 
+pub places_of-requires-clause-inputs : goal.places_of-requires-clause-inputs
+places_of-requires-clause-inputs c =
+    let N : Ready _ _ _ c.make.new.plan = record { passes = (start_passed _ _ _ _ (sym c.in_ok-start_item.ensures)).0; planned = c.make.ensures } in
+    ready_inputs N
+
 pub returns-then-certificate-l : goal.returns-then-certificate-l
 returns-then-certificate-l c =
     let N : Ready _ _ _ c.make.new.plan = record { passes = (start_passed _ _ _ _ (sym c.in_ok-start_item.ensures)).0; planned = c.make.ensures } in

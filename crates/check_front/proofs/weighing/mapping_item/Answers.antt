@@ -10,39 +10,39 @@ use Rattle.check_front.proofs.weighing.mapping_item.Goals as goal
 
 pub mapping_ok-requires : goal.mapping_ok-requires
 mapping_ok-requires c =
-    let few = (ready_accepted c.args.sheet.now.on.now.ready).recorded.ends.few in
-    record { recorded_in_bounds = omega (arith, few, c.requires.long) }
+    let few = (ready_accepted c.args.on.now.ready).recorded.ends.few in
+    record { recorded_in_bounds = omega (arith, few, c.requires.partners_of.long) }
 
 pub returns-then-not-mapping_ok : goal.returns-then-not-mapping_ok
 returns-then-not-mapping_ok c =
-    let on = c.args.sheet.now.on.now in
-    item_21 _ _ _ _ c.mapping_ok.result (c.mapping_ok.ensures ∙ ap (mapping_ok on.table.now on.recorded.now on.found.now) c.requires.front) (ap not c.if-not-mapping_ok.true)
+    let on = c.args.on.now in
+    item_21 _ _ _ _ c.mapping_ok.result (c.mapping_ok.ensures ∙ ap (mapping_ok on.table.now on.recorded.now on.found.now) c.requires.partners_of.front) (ap not c.if-not-mapping_ok.true)
 
 pub weigh-w-requires : goal.weigh-w-requires
 weigh-w-requires c =
-    let on = c.args.sheet.now.on.now in
+    let on = c.args.on.now in
     let few = (ready_accepted on.ready).recorded.ends.few in
-    let ok = passed _ c.mapping_ok.result (c.mapping_ok.ensures ∙ ap (mapping_ok on.table.now on.recorded.now on.found.now) c.requires.front) (ap not c.if-not-mapping_ok.false) in
-    record { recorded_in_bounds = omega (arith, few, c.requires.long); mapping = subst (IsMapping on.table.now on.recorded.now on.found.now) (sym c.requires.front) ((quick_mapping _ _ _ on.ready.passes _).0 ok) }
+    let ok = passed _ c.mapping_ok.result (c.mapping_ok.ensures ∙ ap (mapping_ok on.table.now on.recorded.now on.found.now) c.requires.partners_of.front) (ap not c.if-not-mapping_ok.false) in
+    record { recorded_in_bounds = omega (arith, few, c.requires.partners_of.long); mapping = subst (IsMapping on.table.now on.recorded.now on.found.now) (sym c.requires.partners_of.front) ((quick_mapping _ _ _ on.ready.passes _).0 ok) }
 
 pub int32_at-v-requires : goal.int32_at-v-requires
 int32_at-v-requires c =
-    let l = front_inside _ _ _ c.args.sheet.now.long in omega arith
+    let l = front_inside _ _ _ c.requires.z_len in omega arith
 
 pub returns-then-v-w : goal.returns-then-v-w
 returns-then-v-w c =
-    let on = c.args.sheet.now.on.now in
+    let on = c.args.on.now in
     let v = c.int32_at-v in
     let w = c.weigh-w in
     let same = same_number v.result w.result (record { sfits = v.type_inv }) (record { sfits = w.type_inv }) in
-    item_22 _ _ _ _ c.mapping_ok.result (c.mapping_ok.ensures ∙ ap (mapping_ok on.table.now on.recorded.now on.found.now) c.requires.front) _
-    (weights_compared _ _ _ _ _ v.result w.result _ c.requires v.ensures w.ensures same) (ap not c.if-not-mapping_ok.false) (rw (ne_eqb _ _ c.if-v-w.true))
+    item_22 _ _ _ _ c.mapping_ok.result (c.mapping_ok.ensures ∙ ap (mapping_ok on.table.now on.recorded.now on.found.now) c.requires.partners_of.front) _
+    (weights_compared _ _ _ _ _ v.result w.result _ c.requires.partners_of v.ensures w.ensures same) (ap not c.if-not-mapping_ok.false) (rw (ne_eqb _ _ c.if-v-w.true))
 
 pub returns : goal.returns
 returns c =
-    let on = c.args.sheet.now.on.now in
+    let on = c.args.on.now in
     let v = c.int32_at-v in
     let w = c.weigh-w in
     let same = same_number v.result w.result (record { sfits = v.type_inv }) (record { sfits = w.type_inv }) in
-    item_none _ _ _ _ c.mapping_ok.result (c.mapping_ok.ensures ∙ ap (mapping_ok on.table.now on.recorded.now on.found.now) c.requires.front) _
-    (weights_compared _ _ _ _ _ v.result w.result _ c.requires v.ensures w.ensures same) (ap not c.if-not-mapping_ok.false) (rw (eq-eqb _ _ c.if-v-w.false))
+    item_none _ _ _ _ c.mapping_ok.result (c.mapping_ok.ensures ∙ ap (mapping_ok on.table.now on.recorded.now on.found.now) c.requires.partners_of.front) _
+    (weights_compared _ _ _ _ _ v.result w.result _ c.requires.partners_of v.ensures w.ensures same) (ap not c.if-not-mapping_ok.false) (rw (eq-eqb _ _ c.if-v-w.false))

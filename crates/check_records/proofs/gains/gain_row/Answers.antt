@@ -4,6 +4,7 @@ use Rattle.foundations.specs.Machine.{Same, back}
 use Rattle.model.specs.Graph.{neighbours}
 use Rattle.plan.specs.Numbers.{ready_accepted}
 use Rattle.plan.specs.Pairs.{row_more, pair_low, children_few, degree_few, degree_is, child_place_low, child_edge_low, edge_low, gain_is}
+use Rattle.records.specs.Places.{laid}
 use Rattle.check_records.specs.Gains.{behind_sits, behind_value}
 use Rattle.check_records.proofs.gains.gain_row.Goals as goal
 
@@ -39,7 +40,7 @@ pub value_in-y-requires : goal.value_in-y-requires
 value_in-y-requires c =
     let N = c.args.sheet.now.on.now.ready in
     let hj : c.loop-j.j < length (neighbours c.args.sheet.now.on.now.found.now c.args.v) = omega (arith, c.degree-l.ensures ∙ degree_is N c.requires.pair, c.loop-j-test.true) in
-    record { begins = c.row-row.ensures.begins; sits = rw (c.neighbour-x.ensures, c.behind-b.ensures) (behind_sits N c.requires.pair _ c.requires.i_in_bounds _ hj) }
+    record { laid = laid N c.args.sheet.now.stand; certificate_len = c.args.sheet.now.long; begins = c.row-row.ensures.begins; sits = rw (c.neighbour-x.ensures, c.behind-b.ensures) (behind_sits N c.requires.pair _ c.requires.i_in_bounds _ hj) }
 
 pub neighbour_edge-requires : goal.neighbour_edge-requires
 neighbour_edge-requires c =

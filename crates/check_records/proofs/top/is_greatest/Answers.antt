@@ -5,7 +5,7 @@ use Rattle.check_records.specs.Greatest.{most_largest, long_head, zero_sum}
 use Rattle.check_records.proofs.top.is_greatest.Goals as goal
 
 pub int32_at-requires : goal.int32_at-requires
-int32_at-requires c = long_head _ _ _ c.args.sheet.now.long
+int32_at-requires c = long_head _ _ _ c.requires.certificate_len
 
 pub returns : goal.returns
 returns c =

@@ -6,4 +6,4 @@ use Rattle.check_records.specs.Greatest.{most}
 use Rattle.check_records.proofs.top.top_of_row.Given as goal
 
 abbrev pub invariant-loop-v : goal.invariant-loop-v
-invariant-loop-v l = (l.top ≡ most (λ x. up_w (value_of l.sheet.on.now.recorded.now l.sheet.on.now.found.now l.sheet.certificate.now l.u x x)) l.v) × (l.top < 2 ^ 31)
+invariant-loop-v l = (l.top ≡ most (λ x. up_w (value_of l.recorded l.found l.certificate l.u x x)) l.v) × (l.top < 2 ^ 31)
