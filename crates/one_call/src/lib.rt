@@ -47,7 +47,7 @@ pub fn solve_and_read(on: &Instance, work: &mut [i32], mapping: &mut [u8]) -> i3
 {
     let count = subproblem_count(on.recorded, on.found);
     fill(on, work, 0, count);
-    let Some(top) = largest(on, work) else {
+    let Some(top) = largest(on.recorded, on.found, on.plan, work) else {
         clear(mapping, on.n());
         return 0;
     };
