@@ -17,7 +17,7 @@ pub(crate) fn deliver(on: &Instance, work: &[i32], mapping: &mut [u8]) -> i32
     requires recorded_in_bounds { count on.now.recorded.now ≤ length mapping.old }
     ensures { Delivered on.now.table.now on.now.recorded.now on.now.found.now work.now mapping.old mapping.new result }
 {
-    let Some(top) = largest(on, work) else {
+    let Some(top) = largest(on.recorded, on.found, on.plan, work) else {
         clear(mapping, on.n());
         return 0;
     };

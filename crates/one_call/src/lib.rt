@@ -47,7 +47,7 @@ pub fn solve_and_read(on: &Instance, work: &mut [i32], mapping: &mut [u8]) -> i3
 {
     let count = subproblem_count(on.recorded, on.found);
     fill(on, work, 0, count);
-    let Some(top) = largest(on, work) else {
+    let Some(top) = largest(on.recorded, on.found, on.plan, work) else {
         clear(mapping, on.n());
         return 0;
     };
@@ -58,6 +58,8 @@ pub fn solve_and_read(on: &Instance, work: &mut [i32], mapping: &mut [u8]) -> i3
 // Entry point.
 // A heaviest mapping of the two trees under the table, in the first n bytes of `mapping`; all values in order in `work`. Where an item
 // applies, nothing is written.
+// By the two lemmas any exit that gives the item is proved, so that an edit of it (`refused_as_found`) is refused for what it gives.
+#[tactic(auto, using(model::proofs::Refusals::with_own_number, model::proofs::Refusals::number_some))]
 pub fn match_trees(
     table: &[u8],
     recorded: &[u8],

@@ -48,6 +48,8 @@ fn certificate_length(recorded: &[u8], found: &[u8]) -> usize
 
 // Entry point.
 // How much to lend for the two trees under the table, where none of the items 1 to 12, 25 and 26 applies.
+// By these any exit that gives the item is proved, so that an edit of it (`item_13`) is refused for what it gives.
+#[tactic(auto, using(model::proofs::Refusals::with_own_number, model::proofs::Refusals::number_some), unfolding(model::specs::Sizes::sizes_of, model::specs::Sizes::unless_refused))]
 pub fn sizes(table: &[u8], recorded: &[u8], found: &[u8]) -> Result<Sizes, Refusal>
     ensures { SizesCall table.now recorded.now found.now result }
 {

@@ -1,9 +1,10 @@
 -- `solve_and_read` fills all work numbers, finds the largest value, and reads out from its pair, or clears where there is none. Assumes nothing.
-use Rattle.std.proofs.Common.{ap, ◌∙◌, refl, ◌++◌, ℕ, replicate, drop}
+use Rattle.std.proofs.Common.{ap, ◌∙◌, refl, ◌++◌, ℕ, replicate, drop, arith}
 use Rattle.model.specs.Limits.{no_vertex}
 use Rattle.model.specs.Values.{fill}
 use Rattle.plan.specs.Numbers.{ready_sound, ready_recorded}
 use Rattle.one_call.specs.Top.{top_pair}
+use Rattle.one_call.specs.Assemble.{all_at}
 use Rattle.one_call.specs.Call.{solved_empty, solved_read}
 use Rattle.one_call.proofs.solve_and_read.Goals as goal
 
@@ -12,6 +13,9 @@ subproblem_count-count-requires-clause-sound c = ready_recorded c.args.on.now.re
 
 pub subproblem_count-count-requires-clause-sound_2 : goal.subproblem_count-count-requires-clause-sound_2
 subproblem_count-count-requires-clause-sound_2 c = ready_sound c.args.on.now.ready
+
+pub largest-requires : goal.largest-requires
+largest-requires c = all_at c.args.on.now.ready (record { enough = omega arith })
 
 pub returns-in_default : goal.returns-in_default
 returns-in_default c =

@@ -3,8 +3,12 @@ use Rattle.std.proofs.Common.{refl, ap, ◌∙◌, ◌++◌, ℕ, replicate, dro
 use Rattle.foundations.specs.Machine.{back}
 use Rattle.model.specs.Limits.{no_vertex}
 use Rattle.one_call.specs.Top.{top_pair}
+use Rattle.one_call.specs.Assemble.{all_at}
 use Rattle.jobs.specs.Delivery.{delivered_empty, read_legal, delivered_read}
 use Rattle.jobs.proofs.delivery.deliver.Goals as goal
+
+pub largest-requires : goal.largest-requires
+largest-requires c = all_at c.args.on.now.ready c.requires.lent
 
 pub returns-in_default : goal.returns-in_default
 returns-in_default c = delivered_empty _ _ _ c.args.on.now.ready.passes _ _ _ _ _ _ c.in_default.ensures refl (c.clear.ensures ∙ ap (λ (k : ℕ). replicate k no_vertex ++ drop k c.args.mapping.now) c.n.ensures.value)
