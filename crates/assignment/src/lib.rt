@@ -12,7 +12,7 @@ ghost use Rattle.std.specs.Prelude.{ℕ, ◌+◌, ◌-◌, ◌*◌, ◌<◌, ◌
 ghost use Rattle.foundations.specs.Sums.{sum};
 ghost use Rattle.model.specs.Limits.{degree_limit, pair_limit};
 ghost use Rattle.assignment.specs.Matching.{at, cell, kept_of, out_of, gain_limit};
-ghost use Rattle.assignment.specs.State.{Sized, Lengths, Bytes, Pending, Answer, Partner, Total, place_or};
+ghost use Rattle.assignment.specs.State.{Sized, Lengths, Bytes, Blank, Pending, Answer, Partner, Total, place_or};
 ghost use Rattle.assignment.specs.Loops.{far, less_of, who_of, row_end, OwnersOf, Looked, First, Room, Settled};
 ghost use Rattle.assignment.specs.Tree.{Grown, Rooted, Ended};
 ghost use Rattle.assignment.specs.Counts.{looked_at, Tried, RowCountable, Once, Search, Searches, Countable};
@@ -251,7 +251,7 @@ fn grow(rows: &mut Rows, columns: &mut Columns, p: usize, b: usize, o: usize, d:
     rows.distance[o] = d;
 }
 
-// The search from row r, whose dual is the limit and whose distances are known. A turn takes the nearest column into the tree,
+// The search from row r, whose dual is the limit and whose distances are known; what else the columns held does not matter. A turn takes the nearest column into the tree,
 // with its row. The search ends at a column without a row, or where a tree row's dual is 0: that row is made free.
 fn explore(
     counts: &mut Counts,
@@ -262,7 +262,6 @@ fn explore(
     first: Least,
 )
     requires rooted { Rooted problem.now.matrix.rows problem.now.matrix.columns r (out_of problem.now.choice (cell problem.now.matrix.gains.now)) solution.old.row_duals solution.old.column_duals solution.old.column_of solution.old.row_of columns.old.distance first.place first.value }
-    requires fresh { (columns.old.from ≡ replicate degree_limit r) × (columns.old.joined ≡ replicate degree_limit false) }
     requires by_index { (i : ℕ) → i < degree_limit → i ≢ r → RowCountable i counts.old }
     ensures { (Ended problem.now.matrix.rows problem.now.matrix.columns r (out_of problem.now.choice (cell problem.now.matrix.gains.now)) solution.old.row_duals solution.old.column_duals solution.old.column_of solution.new.row_duals solution.new.column_duals solution.new.column_of) × (Once r counts.old counts.new) }
 {
@@ -273,6 +272,8 @@ fn explore(
     };
     rows.joined[r] = true;
     rows.alternative[r] = solution.column_of;
+    columns.from = [r as u8; Limits::PLACES];
+    columns.joined = [false; Limits::PLACES];
     let mut low = Least {
         place: r,
         value: GAIN_LIMIT,
@@ -313,7 +314,7 @@ fn search(counts: &mut Counts, problem: &Problem, r: usize, solution: &mut Assig
     counts[SEARCHES] += 1;
     let mut columns = Columns {
         distance: [0; Limits::PLACES],
-        from: [r as u8; Limits::PLACES],
+        from: [0; Limits::PLACES],
         joined: [false; Limits::PLACES],
     };
     let near = look_first(
@@ -341,25 +342,56 @@ fn search(counts: &mut Counts, problem: &Problem, r: usize, solution: &mut Assig
     solution.row_of = own;
 }
 
-// The heaviest matching with its duals for a choice, one search for each row, whatever the solution held. The counts are lent for the work. (The solution
-// is lent too: returned by value it is copied three times, a third of the time of a 2 by 2 matrix.)
+// The heaviest matching of so many rows and columns with its duals for a choice, one search for each row. No row has a column yet. (The gains come as an
+// argument of their own, since this is a call where the others are built into their callers: behind a `Matrix` that is lent their address would be
+// known to the callee, and a caller that stores a gain would read again all that it holds behind references, half as much again for each gain.)
+pub(crate) fn solve_counted(
+    counts: &mut Counts,
+    gains: &Gains,
+    rows: usize,
+    columns: usize,
+    choice: usize,
+    solution: &mut Assignment,
+)
+    requires sized { Sized rows columns (cell gains.now) }
+    requires blank { (Blank solution.old.column_duals solution.old.column_of) × (solution.old.row_of ≡ solution.old.column_of) }
+    requires countable { Countable rows counts.old }
+    ensures answer { Answer rows columns (out_of choice (cell gains.now)) solution.new.row_duals solution.new.column_duals solution.new.column_of }
+    ensures owners { OwnersOf rows solution.new.column_of solution.new.row_of }
+    ensures searches { Searches rows counts.old counts.new }
+{
+    let problem = Problem {
+        matrix: Matrix {
+            gains,
+            rows,
+            columns,
+        },
+        choice,
+    };
+    for r in 0..rows {
+        search(counts, &problem, r, solution);
+    }
+}
+
+// The same of a matrix, whatever the solution held. The counts are lent for the work. (The solution is lent too: returned by value it is copied three times,
+// a third of the time of a 2 by 2 matrix.)
 pub fn solve_without(counts: &mut Counts, matrix: &Matrix, choice: usize, solution: &mut Assignment)
     requires { Countable matrix.now.rows counts.old }
     ensures answer { Answer matrix.now.rows matrix.now.columns (out_of choice (cell matrix.now.gains.now)) solution.new.row_duals solution.new.column_duals solution.new.column_of }
     ensures owners { OwnersOf matrix.now.rows solution.new.column_of solution.new.row_of }
     ensures searches { Searches matrix.now.rows counts.old counts.new }
 {
-    let problem = Problem {
-        matrix: *matrix,
-        choice,
-    };
     solution.column_duals = [0; Limits::PLACES];
     solution.column_of = [FREE; Limits::PLACES];
     solution.row_of = [FREE; Limits::PLACES];
-    let k = matrix.rows;
-    for r in 0..k {
-        search(counts, &problem, r, solution);
-    }
+    solve_counted(
+        counts,
+        matrix.gains,
+        matrix.rows,
+        matrix.columns,
+        choice,
+        solution,
+    );
 }
 
 // The same with all columns, where no one asks for the counts.

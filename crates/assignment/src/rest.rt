@@ -9,13 +9,20 @@ ghost use Rattle.assignment.specs.Tree.{Vacant, Reached, Solution};
 ghost use Rattle.assignment.specs.Counts.{Search, Countable};
 
 use crate::{Assignment, Columns, Counts, FREE, GAIN_LIMIT, Problem, SEARCHES, look, look_first};
-use model::Limits;
+use model::{Limits, Row, WideRow};
 
 // How far the search from row r goes, which is the only pending row: the distance at which it ends, as in `search`.
-fn distance(counts: &mut Counts, problem: &Problem, r: usize, solution: &Assignment) -> u64
-    requires vacant { Vacant problem.now.matrix.rows problem.now.matrix.columns r (out_of problem.now.choice (cell problem.now.matrix.gains.now)) solution.now.row_duals solution.now.column_duals solution.now.row_of }
+fn distance(
+    counts: &mut Counts,
+    problem: &Problem,
+    r: usize,
+    row_duals: &WideRow,
+    column_duals: &WideRow,
+    row_of: &Row,
+) -> u64
+    requires vacant { Vacant problem.now.matrix.rows problem.now.matrix.columns r (out_of problem.now.choice (cell problem.now.matrix.gains.now)) row_duals.now column_duals.now row_of.now }
     requires countable { Countable 1 counts.old }
-    ensures { (Reached problem.now.matrix.rows problem.now.matrix.columns r (out_of problem.now.choice (cell problem.now.matrix.gains.now)) solution.now.row_duals solution.now.column_duals result) × (Search counts.old counts.new) }
+    ensures { (Reached problem.now.matrix.rows problem.now.matrix.columns r (out_of problem.now.choice (cell problem.now.matrix.gains.now)) row_duals.now column_duals.now result) × (Search counts.old counts.new) }
 {
     counts[SEARCHES] += 1;
     // `look` keeps the rows in `from`; nothing here asks for them
@@ -24,21 +31,20 @@ fn distance(counts: &mut Counts, problem: &Problem, r: usize, solution: &Assignm
         from: [r as u8; Limits::PLACES],
         joined: [false; Limits::PLACES],
     };
-    let z = &solution.column_duals;
-    let mut near = look_first(counts, problem, z, r, &mut columns.distance);
+    let mut near = look_first(counts, problem, column_duals, r, &mut columns.distance);
     let mut low = GAIN_LIMIT;
     while near.value < low {
         let b = near.place;
         let d = near.value;
-        let t = solution.row_of[b];
+        let t = row_of[b];
         let o = usize::from(t);
         if Limits::PLACES <= o {
             return d;
         }
         columns.joined[b] = true;
-        let base = solution.row_duals[o] + d;
+        let base = row_duals[o] + d;
         low = low.min(base);
-        near = look(counts, problem, z, &mut columns, t, base);
+        near = look(counts, problem, column_duals, &mut columns, t, base);
     }
     low
 }
@@ -56,9 +62,10 @@ pub(crate) fn rest_weight(
 {
     let j = problem.choice - 1;
     let r = usize::from(solution.row_of[j]);
-    let mut rest = *solution;
-    rest.column_duals[j] = 0;
-    rest.row_of[j] = FREE;
-    let e = distance(counts, problem, r, &rest);
+    let mut column_duals = solution.column_duals;
+    column_duals[j] = 0;
+    let mut row_of = solution.row_of;
+    row_of[j] = FREE;
+    let e = distance(counts, problem, r, &solution.row_duals, &column_duals, &row_of);
     all + (GAIN_LIMIT - e) - (solution.row_duals[r] + solution.column_duals[j])
 }

@@ -9,7 +9,7 @@ ghost use Rattle.assignment.specs.Loops.{Greatest};
 ghost use Rattle.assignment.specs.Counts.{Search, Searches, Countable};
 
 use crate::rest::rest_weight;
-use crate::{Assignment, Counts, FREE, Matrix, Problem, SEARCHES, look_at, solve_without};
+use crate::{Assignment, Counts, FREE, Matrix, Problem, SEARCHES, look_at, solve_counted};
 use model::{Gains, Limits};
 
 // A weight for each choice: at 0 that of all columns, at c that without column c - 1.
@@ -83,7 +83,7 @@ fn table_weights(counts: &mut Counts, matrix: &Matrix) -> Weights
     let k = matrix.rows;
     let l = matrix.columns;
     let mut solution = Assignment::EMPTY;
-    solve_without(counts, matrix, 0, &mut solution);
+    solve_counted(counts, matrix.gains, k, l, 0, &mut solution);
     let all = solution.total(k, l);
     let mut t = [all; Limits::PLACES + 1];
     for c in 0..l {

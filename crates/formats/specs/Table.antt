@@ -72,6 +72,10 @@ pub record TablePassed (table : List ℕ) : Type 0 where
 pub row_inside : {table : List ℕ} → TableSized table → (i j : ℕ) → i < vertex_labels table → j < vertex_labels table → column (vertex_row table i) (j + 1) ≤ length table
 row_inside {table} S i j hi hj = let e = row_end_lem (vertex_block table) i hi in let l = S.long in omega arith
 
+-- and so do those of the edge rows
+pub edge_row_inside : {table : List ℕ} → TableSized table → (i j : ℕ) → i < edge_labels table → j < edge_labels table → column (edge_row table i) (j + 1) ≤ length table
+edge_row_inside {table} S i j hi hj = let e = row_end_lem (edge_block table) i hi in let l = S.long in omega arith
+
 pub sized_says : (table : List ℕ) → table_sized table ≡ true → TableSized table
 unfolding table_sized
 sized_says table h =

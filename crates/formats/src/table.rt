@@ -236,6 +236,16 @@ pub fn vertex_row_at(table: &[u8], i: u8) -> usize
     rows.at(i)
 }
 
+// Where the row of the recorded edge label i begins.
+pub fn edge_row_at(table: &[u8], i: u8) -> usize
+    requires table_sized { TableSized table.now }
+    requires i_bound { i < edge_labels table.now }
+    ensures { result ≡ edge_row table.now i }
+{
+    let table = Table { bytes: table };
+    table.edge_rows().at(i)
+}
+
 // The weight of the recorded edge label i and the found one j.
 pub fn edge_weight_at(table: &[u8], i: u8, j: u8) -> i32
     requires table_sized { TableSized table.now }

@@ -33,7 +33,13 @@ fn row_covered(g: &Gains, i: usize, y: u64, across: &WideRow, l: usize, q: usize
     requires { RowDuals i y across.now l q }
     ensures { result ≡ every (is_covered g.now i y across.now q) l }
 {
-    (0..l).all(|j| g[i * Limits::PLACES + column(q, j)] <= y + across[j])
+    let mut ok = true;
+    // Gathered: as an `all`, which ends early, the loops here and in `numbers` take a fifth longer.
+    for j in 0..l {
+        let t = g[i * Limits::PLACES + column(q, j)] <= y + across[j];
+        ok &= t;
+    }
+    ok
 }
 
 // The gains of all k children are.
@@ -41,7 +47,12 @@ fn all_covered(g: &Gains, below: &WideRow, across: &WideRow, k: usize, l: usize,
     requires { Duals below.now across.now k l q }
     ensures { result ≡ every (row_covered g.now below.now across.now l q) k }
 {
-    (0..k).all(|i| row_covered(g, i, below[i], across, l, q))
+    let mut ok = true;
+    for i in 0..k {
+        let t = row_covered(g, i, below[i], across, l, q);
+        ok &= t;
+    }
+    ok
 }
 
 impl<'a> Record<'a> {

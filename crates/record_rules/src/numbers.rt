@@ -21,7 +21,12 @@ pub(crate) fn none_negative(z: &[u8], at: usize, count: usize) -> bool
     requires { Spans (length z.now) at count }
     ensures { result ≡ every (not_negative z.now at) count }
 {
-    (0..count).all(|i| 0 <= int32_at(z, at + 4 * i))
+    let mut ok = true;
+    for i in 0..count {
+        let t = 0 <= int32_at(z, at + 4 * i);
+        ok &= t;
+    }
+    ok
 }
 
 // A function of its own: as `== 0` in the closure below the proof did not close, since the search does not find that equal bits are equal numbers.
@@ -36,7 +41,12 @@ pub(crate) fn all_zero(z: &[u8], at: usize, count: usize) -> bool
     requires { Spans (length z.now) at count }
     ensures { result ≡ every (is_zero z.now at) count }
 {
-    (0..count).all(|i| is_zero(int32_at(z, at + 4 * i)))
+    let mut ok = true;
+    for i in 0..count {
+        let t = is_zero(int32_at(z, at + 4 * i));
+        ok &= t;
+    }
+    ok
 }
 
 // The count numbers from `at` on, 0 for a negative one.

@@ -18,7 +18,7 @@ use assignment::{Assignment, Counts, Matrix};
 use model::{Gains, Limits, Row};
 use plan::counts::width_of;
 use plan::instance::Instance;
-use plan::weights::{VertexRow, edge_pair, gain_of, vertex_row};
+use plan::weights::{VertexRow, edge_pair_in, edge_row, gain_of, vertex_row};
 use plan::{
     Plan, behind, child_count, child_edge, child_place, degree, neighbour, neighbour_edge, slot,
 };
@@ -82,12 +82,15 @@ fn gain_row(g: &mut Gains, on: &Instance, work: &[i32], of: Shared, v: u8, i: us
     ensures { RowFilled (length (neighbours on.now.found.now v)) i (gain_at on.now.table.now on.now.recorded.now on.now.found.now (recalled on.now.recorded.now on.now.found.now work.now) of.u v i) g.old g.new }
 {
     let u = of.u;
-    let base = child_place(on.plan, u, i) * of.width;
-    let label = child_edge(on.plan, u, i);
-    let l = degree(on.plan, v);
+    // Named here, and the row found once: the loop would read them again after each gain that it stores.
+    let table = on.table;
+    let plan = on.plan;
+    let base = child_place(plan, u, i) * of.width;
+    let row = edge_row(table, child_edge(plan, u, i));
+    let l = degree(plan, v);
     for j in 0..l {
-        let e = edge_pair(on.table, label, neighbour_edge(on.plan, v, j));
-        let q = gain_of(e, work[base + behind(on.plan, v, j)]);
+        let e = edge_pair_in(table, row, neighbour_edge(plan, v, j));
+        let q = gain_of(e, work[base + behind(plan, v, j)]);
         g[i * Limits::PLACES + j] = q;
     }
 }

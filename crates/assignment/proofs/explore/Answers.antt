@@ -10,7 +10,7 @@ use Rattle.assignment.proofs.explore.Goals as goal
 pub loop-near-init : goal.loop-near-init
 loop-near-init c =
     let p = c.requires in
-    rw (marks_set _ c.args.r, p.fresh.0, p.fresh.1, marks_none) (turn_start _ refl p.rooted, tries_start _ _ _ (mark_here c.args.r (omega (arith, p.rooted.below, p.rooted.sized.rows))), p.rooted)
+    rw (marks_set _ c.args.r, marks_none) (turn_start _ refl p.rooted, tries_start _ _ _ (mark_here c.args.r (omega (arith, p.rooted.below, p.rooted.sized.rows))), p.rooted)
 
 pub settle-requires : goal.settle-requires
 settle-requires c = room_column c.loop-near.invariant.2 c.loop-near.invariant.0 c.loop-near-test.true

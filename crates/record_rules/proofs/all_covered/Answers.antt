@@ -1,9 +1,13 @@
--- `all_covered` meets its contract. Assumes nothing.
+-- `all_covered` meets its contract: the test is gathered row by row. Assumes nothing.
 use Rattle.std.proofs.Common.{refl, rules}
-use Rattle.foundations.specs.Ranges.{every_from_all}
+use Rattle.foundations.specs.Lists.{every, every_step}
 use Rattle.record_rules.specs.Cover.{row_covered}
 use Rattle.record_rules.proofs.all_covered.Goals as goal
 
-pub returns : goal.returns
+pub loop-i-init : goal.loop-i-init
+unfolding every
+loop-i-init c = refl
+
+pub loop-i-preserved : goal.loop-i-preserved
 unfolding row_covered
-returns c = every_from_all _ _ _ _ c.all.ensures.ran refl (λ x b q k. search rules)
+loop-i-preserved c = every_step _ c.loop-i.i c.loop-i.ok _ c.loop-i.invariant (search rules)

@@ -9,16 +9,16 @@ use Rattle.assignment.proofs.weights.table_weights.Goals as goal
 
 pub total-all-requires : goal.total-all-requires
 total-all-requires c =
-    let p = c.args.matrix.now.sized in let s = (answer_all p c.solve_without.ensures.answer).solved in (p.rows, p.columns, s.row_limit, s.column_limit)
+    let p = c.args.matrix.now.sized in let s = (answer_all p c.solve_counted.ensures.answer).solved in (p.rows, p.columns, s.row_limit, s.column_limit)
 
 pub loop-c-init : goal.loop-c-init
 loop-c-init c =
-    let p = c.args.matrix.now.sized in (filled_start p.columns (all_heaviest (answer_all p c.solve_without.ensures.answer).solved c.total-all.ensures), searches_none _)
+    let p = c.args.matrix.now.sized in (filled_start p.columns (all_heaviest (answer_all p c.solve_counted.ensures.answer).solved c.total-all.ensures), searches_none _)
 
 pub rest_weight-w-requires : goal.rest_weight-w-requires
 rest_weight-w-requires c =
     let p = c.args.matrix.now.sized in
-    let s = c.solve_without.ensures in
+    let s = c.solve_counted.ensures in
     let h = c.loop-c-test.true in
     record {
       sized = (record { m = _; answer = answer_all p s.answer; owners = s.owners }, omega arith, omega (arith, h), omega (arith, owner_at s.owners c.loop-c.c refl, c.if-solution-c-lt-FREE.true), c.total-all.ensures.equal);
@@ -30,7 +30,7 @@ loop-c-preserved c =
     let p = c.args.matrix.now.sized in
     let h = c.loop-c-test.true in
     let i = c.loop-c.invariant in
-    let s = c.solve_without.ensures in
+    let s = c.solve_counted.ensures in
     elim c.if-solution-c-lt-FREE.branch [
       | then-solution-c-lt-FREE w ↦ rw (w.t-is, w.counts-is) (filled_set _ p.columns i.0 h w.rest_weight-w.ensures.0, searches_both i.1 (searches_one w.rest_weight-w.ensures.1))
       | else-solution-c-lt-FREE w ↦ rw (w.t-is, w.counts-is) (filled_stays i.0 h (rest_free p (omega arith) (omega (arith, h)) (answer_all p s.answer) (λ x hx q. s.owners.none c.loop-c.c (omega (arith, h, p.columns)) (omega (arith, w.if-solution-c-lt-FREE.false)) x hx (q ∙ (omega arith))) c.total-all.ensures), searches_few i.1 (omega arith))
@@ -38,4 +38,4 @@ loop-c-preserved c =
 
 pub returns : goal.returns
 returns c =
-    let i = c.loop-c.invariant in (filled_end i.0 c.loop-c-test.false, searches_both c.solve_without.ensures.searches (searches_few i.1 c.loop-c.auto.c-end))
+    let i = c.loop-c.invariant in (filled_end i.0 c.loop-c-test.false, searches_both c.solve_counted.ensures.searches (searches_few i.1 c.loop-c.auto.c-end))

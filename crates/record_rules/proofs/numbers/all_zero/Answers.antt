@@ -1,9 +1,13 @@
--- `all_zero` meets its contract. Assumes nothing.
+-- `all_zero` meets its contract: the test is gathered number by number. Assumes nothing.
 use Rattle.std.proofs.Common.{refl, rules}
-use Rattle.foundations.specs.Ranges.{every_from_all}
+use Rattle.foundations.specs.Lists.{every, every_step}
 use Rattle.record_rules.specs.Numbers.{is_zero}
 use Rattle.record_rules.proofs.numbers.all_zero.Goals as goal
 
-pub returns : goal.returns
+pub loop-i-init : goal.loop-i-init
+unfolding every
+loop-i-init c = refl
+
+pub loop-i-preserved : goal.loop-i-preserved
 unfolding is_zero
-returns c = every_from_all (is_zero c.args.z.now c.args.at) _ _ _ c.all.ensures.ran refl (λ x b q k. search rules)
+loop-i-preserved c = every_step (is_zero c.args.z.now c.args.at) c.loop-i.i c.loop-i.ok _ c.loop-i.invariant (search rules)

@@ -26,8 +26,8 @@ overflow_mul-base c =
     let m : c.child_place.result * c.args.of.width ≤ vertex_limit * width_limit = mul-le-mul a b in
     omega arith
 
-pub child_edge-label-requires : goal.child_edge-label-requires
-child_edge-label-requires c = ((pair_low c.args.on.now.ready c.requires.pair).0, omega (arith, c.requires.i_in_bounds, children_few c.args.on.now.ready c.requires.pair))
+pub child_edge-requires : goal.child_edge-requires
+child_edge-requires c = ((pair_low c.args.on.now.ready c.requires.pair).0, omega (arith, c.requires.i_in_bounds, children_few c.args.on.now.ready c.requires.pair))
 
 pub degree-l-requires : goal.degree-l-requires
 degree-l-requires c = (pair_low c.args.on.now.ready c.requires.pair).1
@@ -35,18 +35,24 @@ degree-l-requires c = (pair_low c.args.on.now.ready c.requires.pair).1
 pub loop-j-init : goal.loop-j-init
 loop-j-init c =
     let d = c.degree-l.ensures ∙ degree_is c.args.on.now.ready c.requires.pair in
-    (omega arith, omega (arith, d, degree_few c.args.on.now.ready c.requires.pair), omega (arith, c.requires.i_in_bounds, children_few c.args.on.now.ready c.requires.pair), d, rw (c.child_place.ensures, c.requires.shared_of.wide), c.child_edge-label.ensures, row_none _ _ _ (omega arith))
+    (omega arith, omega (arith, d, degree_few c.args.on.now.ready c.requires.pair), omega (arith, c.requires.i_in_bounds, children_few c.args.on.now.ready c.requires.pair), d, rw (c.child_place.ensures, c.requires.shared_of.wide), row_none _ _ _ (omega arith))
 
 pub neighbour_edge-requires : goal.neighbour_edge-requires
 neighbour_edge-requires c = ((pair_low c.args.on.now.ready c.requires.pair).1, omega (arith, c.loop-j-test.true, c.loop-j.invariant.1))
 
-pub edge_pair-e-requires-clause-table_passed : goal.edge_pair-e-requires-clause-table_passed
-edge_pair-e-requires-clause-table_passed c =
-    let in_row : c.loop-j.j < length (neighbours c.args.on.now.found.now c.args.v) = omega (arith, c.loop-j-test.true, c.loop-j.invariant.3) in (ready_accepted c.args.on.now.ready).weights
+pub edge_row-row-requires-clause-table_passed : goal.edge_row-row-requires-clause-table_passed
+edge_row-row-requires-clause-table_passed c = (ready_accepted c.args.on.now.ready).weights
 
-pub edge_pair-e-requires-clause-i_bound : goal.edge_pair-e-requires-clause-i_bound
-edge_pair-e-requires-clause-i_bound c =
-    let in_row : c.loop-j.j < length (neighbours c.args.on.now.found.now c.args.v) = omega (arith, c.loop-j-test.true, c.loop-j.invariant.3) in (rw c.loop-j.invariant.5 (child_edge_low c.args.on.now.ready c.requires.pair _ c.requires.i_in_bounds), rw c.neighbour_edge.ensures (edge_low c.args.on.now.ready c.requires.pair _ c.requires.i_in_bounds _ (in_row)))
+pub edge_row-row-requires-clause-i_bound : goal.edge_row-row-requires-clause-i_bound
+edge_row-row-requires-clause-i_bound c = rw c.child_edge.ensures (child_edge_low c.args.on.now.ready c.requires.pair _ c.requires.i_in_bounds)
+
+pub edge_pair_in-e-requires-clause-table_passed : goal.edge_pair_in-e-requires-clause-table_passed
+edge_pair_in-e-requires-clause-table_passed c = (ready_accepted c.args.on.now.ready).weights
+
+pub edge_pair_in-e-requires-clause-bounds : goal.edge_pair_in-e-requires-clause-bounds
+edge_pair_in-e-requires-clause-bounds c =
+    let in_row : c.loop-j.j < length (neighbours c.args.on.now.found.now c.args.v) = omega (arith, c.loop-j-test.true, c.loop-j.invariant.3) in
+    (rw (c.edge_row-row.ensures.seen, c.child_edge.ensures) (child_edge_low c.args.on.now.ready c.requires.pair _ c.requires.i_in_bounds), rw c.neighbour_edge.ensures (edge_low c.args.on.now.ready c.requires.pair _ c.requires.i_in_bounds _ (in_row)))
 
 pub behind-requires : goal.behind-requires
 behind-requires c = ((pair_low c.args.on.now.ready c.requires.pair).1, omega (arith, c.loop-j-test.true, c.loop-j.invariant.1))
@@ -72,16 +78,15 @@ bounds-work-base c =
 pub loop-j-preserved : goal.loop-j-preserved
 loop-j-preserved c =
     let in_row : c.loop-j.j < length (neighbours c.args.on.now.found.now c.args.v) = omega (arith, c.loop-j-test.true, c.loop-j.invariant.3) in
-    let a : Same c.edge_pair-e.result = back c.edge_pair-e.type_inv in
+    let a : Same c.edge_pair_in-e.result = back c.edge_pair_in-e.type_inv in
     let b : Same (get_or c.args.work.now (c.child_place.result * c.args.of.width + c.behind.result) (pos 0)) = search rules in
-    let E = rw (c.loop-j.invariant.5, c.neighbour_edge.ensures) at c.edge_pair-e.ensures in (
+    let E = rw (c.edge_row-row.ensures.seen, c.child_edge.ensures, c.neighbour_edge.ensures) at c.edge_pair_in-e.ensures in (
       omega arith,
       c.loop-j.invariant.1,
       c.loop-j.invariant.2,
       c.loop-j.invariant.3,
       c.loop-j.invariant.4,
-      c.loop-j.invariant.5,
-      row_more c.loop-j.j _ _ _ _ _ c.loop-j.invariant.2 (omega arith) c.loop-j.invariant.6
+      row_more c.loop-j.j _ _ _ _ _ c.loop-j.invariant.2 (omega arith) c.loop-j.invariant.5
           (work_gain c.args.on.now.ready c.requires.pair _ c.requires.i_in_bounds _ (in_row) _ _ _ E (rw (a, b, c.loop-j.invariant.4, c.behind.ensures) at c.gain_of-q.ensures))
           c.gain_of-q.ensures.small,
     )
