@@ -6,6 +6,7 @@
 ghost use Rattle.std.specs.Prelude.{◌≡◌, length};
 ghost use Rattle.foundations.specs.Lists.{every};
 ghost use Rattle.model.specs.Certificate.{subproblem_ok, check_of};
+ghost use Rattle.model.specs.Calls.{input_item};
 ghost use Rattle.model.specs.Limits.{vertex_limit};
 ghost use Rattle.model.specs.Order.{subproblems};
 ghost use Rattle.model.specs.Tree.{count};
@@ -136,16 +137,17 @@ fn certificate_item(on: &Instance, places: &Places, certificate: &[u8]) -> Resul
     records_item(&sheet)
 }
 
-// The first of all items of a check that applies.
-fn first_item(
+// The items 20 to 24 of inputs that no item before them refuses: makes their plan and the places. A function of its own, so that what it makes is cleared
+// once, behind the test of the inputs.
+fn planned_item(
     table: &[u8],
     recorded: &[u8],
     found: &[u8],
     certificate: &[u8],
 ) -> Result<(), Refusal>
+    requires { input_item table.now recorded.now found.now ≡ 0 }
     ensures { refusal_in result ≡ check_of table.now recorded.now found.now certificate.now }
 {
-    input_item(table, recorded, found)?;
     let mut plan = [[0u8; Limits::PLACES]; Blocks::ALL];
     make(&mut plan, recorded, found);
     let on = Instance {
@@ -157,6 +159,19 @@ fn first_item(
     let mut places = [[0u32; 2]; Limits::PREFIXES];
     places_of(&mut places, recorded, found, &plan);
     certificate_item(&on, &places, certificate)
+}
+
+// The first of all items of a check that applies.
+fn first_item(
+    table: &[u8],
+    recorded: &[u8],
+    found: &[u8],
+    certificate: &[u8],
+) -> Result<(), Refusal>
+    ensures { refusal_in result ≡ check_of table.now recorded.now found.now certificate.now }
+{
+    input_item(table, recorded, found)?;
+    planned_item(table, recorded, found, certificate)
 }
 
 // Entry point.
