@@ -108,10 +108,15 @@ impl<'a> Records<'a> {
         }
     }
 
+    // All are tested, also behind a wrong one: the compiler then tests many at once.
     fn vertices_marked(&self) -> bool
         ensures { result ≡ every (λ v. is_mark self.now.bytes.now (vertex_start self.now.bytes.now v) (vertex_mark_of self.now.bytes.now)) self.now.n }
     {
-        (0..self.n).all(|v| self.is_vertex(v))
+        let mut ok = true;
+        for v in 0..self.n {
+            ok &= self.is_vertex(v);
+        }
+        ok
     }
 
     fn is_edge(&self, j: usize) -> bool
@@ -138,10 +143,15 @@ impl<'a> Records<'a> {
 
     // ---- item 4: labels that the table has
 
+    // All are tested, as the marks are.
     fn vertex_labels_known(&self, labels: u8) -> bool
         ensures { result ≡ every (λ v. ltb (vertex_label self.now.bytes.now v) labels) self.now.n }
     {
-        (0..self.n).all(|v| self.bytes[self.vertex_start(v) + 2] < labels)
+        let mut ok = true;
+        for v in 0..self.n {
+            ok &= self.bytes[self.vertex_start(v) + 2] < labels;
+        }
+        ok
     }
 
     fn edge_labels_known(&self, labels: u8) -> bool

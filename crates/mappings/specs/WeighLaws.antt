@@ -1,10 +1,9 @@
 -- The mapping's exact sum, term by term: what each term is, and that it is small. Assumes nothing.
 use Rattle.std.specs.Prelude.{◌≡◌, refl, ◌⊎◌, ◌≢◌, Bool, true, false, ◌&&◌, cond, List, ℕ, ◌+◌, ◌*◌, ◌≤◌, ◌<◌, get_or, length, take, T, eqb, ℤ, pos, neg_ℤ, ◌+ℤ◌, ◌≤ℤ◌}
-use Rattle.std.proofs.Common.{sym, ◌∙◌, subst, inl, ⊎_elim, arith, get_or-take, eq-eqb, ne_eqb, SFits}
-use Rattle.std.specs.Int.{w32}
+use Rattle.std.proofs.Common.{sym, ◌∙◌, subst, inl, ⊎_elim, arith, get_or-take, eq-eqb, ne_eqb}
 use Rattle.std.proofs.Math.Path.{ap}
 use Rattle.std.proofs.Math.Bool.{not}
-use Rattle.foundations.specs.Int.{up, dn, int, ints, plus, canon}
+use Rattle.foundations.specs.Int.{up, dn, int, plus, canon}
 use Rattle.foundations.specs.Sums.{sumℤ, sumℤ_more, pick}
 use Rattle.foundations.specs.Tests.{and_both, and_false}
 use Rattle.model.specs.Graph.{edges, joined}
@@ -59,9 +58,9 @@ sum_both j k x y s t r S R e =
 pub sum_more : (i : ℕ) (F : ℕ → ℤ) (s t r : ℤ) → SumTo i (sumℤ i F) s → SumTo 1 (F i) t → r ≡ s +ℤ t → SumTo (i + 1) (sumℤ (i + 1) F) r
 sum_more i F s t r S R e = subst (λ (z : ℤ). SumTo (i + 1) z r) (sym (sumℤ_more i F)) (sum_both i 1 (sumℤ i F) (F i) s t r S R e)
 
--- a loop's turn: the sum fits, and has one term more
-pub sum_turn : (F : ℕ → ℤ) {i n : ℕ} {s t : ℤ} → SumTo i (sumℤ i F) s → SumTo 1 (F i) t → i < n → n ≤ part_limit → SFits w32 (s +ℤ t)
-sum_turn F {s = s} {t = t} S R l h = let a = S.high in let b = S.low in let c = R.high in let d = R.low in omega (ints, plus s t)
+-- a loop's turn: the sum and one term more are together small
+pub sum_turn : (F : ℕ → ℤ) {i n : ℕ} {s t : ℤ} → SumTo i (sumℤ i F) s → SumTo 1 (F i) t → i < n → n ≤ part_limit → SmallSum s t
+sum_turn F S R l h = small_sum {k = 1} (omega arith) S R
 
 -- and its end
 pub sum_end : (F : ℕ → ℤ) {i n : ℕ} {s : ℤ} → i ≡ n → SumTo i (sumℤ i F) s → SumTo n (sumℤ n F) s

@@ -1,14 +1,22 @@
 //! The exact weight of a mapping: its vertex pairs and its edge pairs added up.
-ghost use Rattle.std.specs.Prelude.{◌+◌, ◌-◌, ◌<◌, ◌≤◌, ◌≡◌, length, take};
+ghost use Rattle.std.specs.Prelude.{◌+◌, ◌-◌, ◌<◌, ◌≤◌, ◌≡◌, length, take, ◌+ℤ◌};
 ghost use Rattle.model.specs.Tree.{count, end_a, end_b};
 ghost use Rattle.model.specs.Mapping.{IsMapping, vertex_pairs, edge_term, edge_pairs, weight};
-ghost use Rattle.mappings.specs.WeighLaws.{Ground, SumTo, vertex_term};
+ghost use Rattle.mappings.specs.WeighLaws.{Ground, SumTo, SmallSum, vertex_term};
 
 use formats::tree::Tree;
 use model::Limits;
 use plan::instance::Instance;
 use plan::weights::{edge_pair, vertex_pair};
 use plan::{neighbour_edge, slot};
+
+// Two numbers that together are no more than a mapping can weigh: their sum fits.
+fn add(s: i32, t: i32) -> i32
+    requires { SmallSum s t }
+    ensures { result ≡ s +ℤ t }
+{
+    s + t
+}
 
 // The weight of u's pair, 0 where u has no partner.
 fn vertex_term(on: &Instance, mapping: &[u8], u: u8) -> i32
@@ -31,7 +39,7 @@ fn sum_vertices(on: &Instance, mapping: &[u8]) -> i32
     let n = on.n() as u8;
     let mut sum: i32 = 0;
     for u in 0..n {
-        sum += vertex_term(on, mapping, u);
+        sum = add(sum, vertex_term(on, mapping, u));
     }
     sum
 }
@@ -69,7 +77,7 @@ fn sum_edges(on: &Instance, mapping: &[u8]) -> i32
     let edges = on.n() - 1;
     let mut sum: i32 = 0;
     for j in 0..edges {
-        sum += edge_term(on, mapping, j);
+        sum = add(sum, edge_term(on, mapping, j));
     }
     sum
 }
@@ -80,5 +88,5 @@ pub fn weigh(on: &Instance, mapping: &[u8]) -> i32
     requires mapping { IsMapping on.now.table.now on.now.recorded.now on.now.found.now (take (count on.now.recorded.now) mapping.now) }
     ensures { result ≡ weight on.now.table.now on.now.recorded.now on.now.found.now (take (count on.now.recorded.now) mapping.now) }
 {
-    sum_vertices(on, mapping) + sum_edges(on, mapping)
+    add(sum_vertices(on, mapping), sum_edges(on, mapping))
 }

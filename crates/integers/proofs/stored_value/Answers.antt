@@ -1,5 +1,5 @@
 -- `stored_value` meets its contract: the sum fits an i64, and the lesser of it and the ceiling an i32. Assumes nothing.
-use mathlib.Core.Path.{◌≡◌}
+use mathlib.Core.Path.{◌≡◌, subst}
 use native.Mathlib.Omega.{arith}
 use lib.IntN.{ℤ, pos, ◌+ℤ◌}
 use mir.Syntax.{w32, w64}
@@ -22,4 +22,5 @@ returns c =
     let value : StoredValue c.args.weight c.args.total c.min-clipped.result = stored_within c.requires.weight_value lesser in
     let same_64 : to_z w64 (of_z w64 c.min-clipped.result) ≡ c.min-clipped.result = to_z-of_z {w = w64} (record { sfits = c.min-clipped.type_inv }) in
     let fits-32 : SFits w32 c.min-clipped.result = omega (ints, value.least, value.most) in
-    rw (same_64, to_z-of_z fits-32) value
+    let same_32 : to_z w32 (of_z w32 c.min-clipped.result) ≡ c.min-clipped.result = to_z-of_z fits-32 in
+    subst (λ (z : ℤ). StoredValue c.args.weight c.args.total z) (grind arith) value
