@@ -89,6 +89,7 @@ fn advance_slice(
 
 // Entry point.
 // An advance of the record by value: the record after the call beside the answer. The work numbers are lent.
+#[tactic(auto, using(crate::proofs::Theorems::advance_refusal_lem), unfolding(model::specs::Jobs::advance_of, model::specs::Jobs::advance_solves))]
 pub fn advance_core(
     job: JobRecord,
     table: &[u8],

@@ -34,6 +34,7 @@ pub(crate) fn begun(job: JobRecord, recorded: &[u8], found: &[u8]) -> JobRecord
 }
 
 // The record after so many subproblems.
+#[tactic(auto, unfolding(model::specs::Jobs::advanced))]
 pub(crate) fn moved(job: JobRecord, count: u32) -> JobRecord
     requires { job.position + count ≤ subproblem_limit }
     ensures { result ≡ advanced job count }
