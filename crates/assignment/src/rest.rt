@@ -66,6 +66,13 @@ pub(crate) fn rest_weight(
     column_duals[j] = 0;
     let mut row_of = solution.row_of;
     row_of[j] = FREE;
-    let e = distance(counts, problem, r, &solution.row_duals, &column_duals, &row_of);
+    let e = distance(
+        counts,
+        problem,
+        r,
+        &solution.row_duals,
+        &column_duals,
+        &row_of,
+    );
     all + (GAIN_LIMIT - e) - (solution.row_duals[r] + solution.column_duals[j])
 }

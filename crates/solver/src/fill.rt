@@ -149,20 +149,22 @@ pub fn fill_counted(
     requires countable { Countable (search_most on.now.recorded.now on.now.found.now from count) scratch.old.counts }
     ensures { (work.new ≡ fill on.now.table.now on.now.recorded.now on.now.found.now work.old from count) × (Searches (search_most on.now.recorded.now on.now.found.now from count) scratch.old.counts scratch.new.counts) }
 {
-    let width = width_of(on.found);
+    // A copy: of what is lent each part would be read again after each gain that is stored.
+    let instance = *on;
+    let width = width_of(instance.found);
     let mut i = 0;
     // A `while`: it steps by what is left of the row, or of all.
     while i < count {
         let p = from + i;
         let rest = p % width;
         let c = (count - i).min(width - rest);
-        let u = in_order(on.plan, p / width);
+        let u = in_order(instance.plan, p / width);
         let run = Run {
             first: rest,
             from: p,
             count: c,
         };
-        fill_row(scratch, on, work, u, run);
+        fill_row(scratch, &instance, work, u, run);
         i += c;
     }
 }
