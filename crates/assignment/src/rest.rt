@@ -62,17 +62,10 @@ pub(crate) fn rest_weight(
 {
     let j = problem.choice - 1;
     let r = usize::from(solution.row_of[j]);
-    let mut column_duals = solution.column_duals;
-    column_duals[j] = 0;
+    let mut duals = solution.column_duals;
+    duals[j] = 0;
     let mut row_of = solution.row_of;
     row_of[j] = FREE;
-    let e = distance(
-        counts,
-        problem,
-        r,
-        &solution.row_duals,
-        &column_duals,
-        &row_of,
-    );
+    let e = distance(counts, problem, r, &solution.row_duals, &duals, &row_of);
     all + (GAIN_LIMIT - e) - (solution.row_duals[r] + solution.column_duals[j])
 }
