@@ -1,8 +1,10 @@
 //! Lines of test cases: a name, a colon, a word, and bytes in hexadecimal. For the programs that run cases through the library.
 #![tactic(auto)]
 
-ghost use Rattle.std.specs.Prelude.{◌≡◌, ◌≤◌, ◌<◌, length, take};
+ghost use Rattle.std.specs.Prelude.{◌≡◌, ◌≤◌, ◌<◌, ◌==◌, [], length, take, position, MatchOption};
 ghost use Rattle.std.specs.Iterator.{at_most};
+ghost use Rattle.std.specs.List.{before_first, after_first};
+ghost use Rattle.case_lines.specs.Line.{name_in, word_in, FirstLine};
 
 // A line: its name, its word, and the digits of its bytes, with what stands between them.
 #[derive(Clone, Copy)]
@@ -16,12 +18,21 @@ pub struct Line<'a> {
 #[derive(Drop)]
 pub struct Lines<'a>(pub &'a [u8]);
 
+// The place of the first c.
+fn first_place(s: &[u8], c: u8) -> Option<usize>
+    ensures { result ≡ position (λ b. b == c) s.now }
+{
+    s.iter().position(|b| *b == c)
+}
+
 // What stands before the first c, and what stands behind it.
 fn cut(s: &[u8], c: u8) -> (&[u8], &[u8])
+    ensures before { result.0.now ≡ before_first (λ b. b == c) s.now }
+    ensures behind { result.1.now ≡ after_first (λ b. b == c) s.now }
     ensures front { result.0.now ≡ take (length result.0.now) s.now }
     ensures shorter { 0 < length s.now → length result.1.now < length s.now }
 {
-    match s.iter().position(|b| *b == c) {
+    match first_place(s, c) {
         Some(i) => (&s[..i], &s[i + 1..]),
         None => (s, &[]),
     }
@@ -39,7 +50,9 @@ fn digit(c: u8) -> Option<u8> {
 impl<'a> Line<'a> {
     // The line of a text without its end: a blank stands behind the colon, and one behind the word.
     pub fn of(text: &'a [u8]) -> Line<'a>
-        ensures { result.name.now ≡ take (length result.name.now) text.now }
+        ensures name { result.name.now ≡ name_in text.now }
+        ensures word { result.word.now ≡ word_in text.now }
+        ensures front { result.name.now ≡ take (length result.name.now) text.now }
     {
         let (name, rest) = cut(text, b':');
         let (word, digits) = cut(rest.get(1..).unwrap_or(&[]), b' ');
@@ -65,6 +78,11 @@ impl<'a> Line<'a> {
 
 impl<'a> Iterator for Lines<'a> {
     type Item = Line<'a>;
+
+    // A line is the first of what was left, and what is left then stands behind it; there is none where nothing was left.
+    ghost next_gives = { λ old r new. MatchOption r
+        ((old.0.now ≡ []) × (new.0.now ≡ []))
+        (λ line. FirstLine old.0.now line.name.now line.word.now new.0.now) };
 
     ghost remaining = { λ s. at_most (length s.0.now) };
 

@@ -1,0 +1,2 @@
+-- What lines of test cases are.
+pub mod Line
