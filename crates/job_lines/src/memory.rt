@@ -1,5 +1,6 @@
 //! The buffers of a run: what they are filled with, and what a call changed in them.
-ghost use Rattle.std.specs.Prelude.{◌≡◌, ◌<◌, length, replicate, slice_set};
+ghost use Rattle.std.specs.Prelude.{◌≡◌, ◌<◌, length, replicate, slice_set, pos};
+ghost use Rattle.model.specs.Limits.{vertex_limit, no_vertex, subproblem_limit};
 
 use model::Limits;
 
@@ -25,7 +26,11 @@ pub(crate) struct Changes {
 
 impl Memory {
     // Before any input: no buffer is fresh.
-    pub fn new() -> Memory {
+    pub fn new() -> Memory
+        ensures work { result.work ≡ replicate subproblem_limit (pos 0) }
+        ensures kept { result.kept ≡ replicate subproblem_limit (pos 0) }
+        ensures mapping { result.mapping ≡ replicate vertex_limit no_vertex }
+    {
         Memory {
             work: [0; Limits::SUBPROBLEMS],
             kept: [0; Limits::SUBPROBLEMS],
