@@ -16,13 +16,15 @@
 #![tactic(auto)]
 
 mod calls;
+mod plant;
 mod step;
 
 use crate::calls::{match_whole, run_job};
-use crate::step::{Call, Step};
+use crate::plant::Plant;
+use crate::step::{Call, NUMBERS, Step};
 use case_lines::{Line, Lines};
 use console::show::Told;
-use formats::split::split;
+use formats::split::Parts;
 use job_lines::memory::Memory;
 use job_lines::show::{Advanced, Record, Started, print_job, print_numbers, print_step};
 use jobs::{advance_core, finish, start_core};
@@ -30,13 +32,9 @@ use model::{JobRecord, Limits};
 use reading::read_full;
 use std::io;
 
-// The longest input of the match program; what a line has beyond it is passed over.
-const ROOM: usize = 8192;
-
-// What the calls work on beside the buffers: the line with the input, how many work numbers and mapping bytes are lent, and the record.
+// What the calls work on beside the input and the buffers: how many work numbers and mapping bytes are lent, and the record.
 #[derive(Clone, Copy)]
-struct State<'a> {
-    plant: Line<'a>,
+struct State {
     lent: usize,
     room: usize,
     job: JobRecord,
@@ -46,12 +44,12 @@ struct State<'a> {
 fn answer(
     rt: &impl Print,
     call: Call,
-    st: State<'_>,
-    work: &mut [i32],
-    mapping: &mut [u8],
+    st: State,
+    parts: Parts<'_>,
+    memory: &mut Memory,
 ) -> io::Result<JobRecord> {
-    let mut buffer = [0u8; ROOM];
-    let parts = split(st.plant.bytes(&mut buffer));
+    let work = &mut memory.work[..];
+    let mapping = &mut memory.mapping[..];
     let lent = st.lent.min(work.len());
     let room = st.room.min(mapping.len());
     match call {
@@ -94,28 +92,28 @@ fn answer(
 }
 
 // A call and what it changed.
-fn call_step<'a>(
+fn call_step(
     rt: &impl Print,
     call: Call,
-    st: State<'a>,
+    st: State,
+    parts: Parts<'_>,
     memory: &mut Memory,
-) -> io::Result<State<'a>> {
+) -> io::Result<State> {
     memory.keep();
-    let job = answer(rt, call, st, &mut memory.work, &mut memory.mapping)?;
+    let job = answer(rt, call, st, parts, memory)?;
     print_step(rt, st.job, job, memory)?;
     memory.clear_mapping();
     Ok(State { job, ..st })
 }
 
 // The one-call match, and the same as a job.
-fn job_step<'a>(
+fn job_step(
     rt: &impl Print,
     budget: u32,
-    st: State<'a>,
+    st: State,
+    parts: Parts<'_>,
     memory: &mut Memory,
-) -> io::Result<State<'a>> {
-    let mut buffer = [0u8; ROOM];
-    let parts = split(st.plant.bytes(&mut buffer));
+) -> io::Result<State> {
     let whole = match_whole(parts, memory);
     let run = run_job(st.job, parts, budget, memory);
     let answer = finish(
@@ -132,28 +130,30 @@ fn job_step<'a>(
 }
 
 // One step of the line.
-fn turn<'a>(
+fn turn(
     rt: &impl Print,
-    line: Line<'a>,
-    st: State<'a>,
+    line: Line<'_>,
+    st: State,
+    plant: &mut Plant,
     memory: &mut Memory,
-) -> io::Result<State<'a>> {
-    let mut buffer = [0u8; ROOM];
-    match Step::of(line.word, line.bytes(&mut buffer)) {
+) -> io::Result<State> {
+    let mut numbers = [0u8; NUMBERS];
+    match Step::of(line.word, line.bytes(&mut numbers)) {
         Step::Plant => {
+            plant.read(line);
             println!(rt; "input")?;
             memory.clear_work();
             memory.clear_mapping();
             Ok(State {
-                plant: line,
                 lent: Limits::SUBPROBLEMS,
                 room: Limits::ROWS,
                 job: JobRecord::fresh(),
             })
         }
         Step::Other => {
+            plant.read(line);
             println!(rt; "another input")?;
-            Ok(State { plant: line, ..st })
+            Ok(st)
         }
         Step::Lend(lent, room) => {
             println!(rt; "lent {lent} and {room}")?;
@@ -176,15 +176,20 @@ fn turn<'a>(
             print_numbers(rt, memory, count as usize)?;
             Ok(st)
         }
-        Step::Job(budget) => job_step(rt, budget, st, memory),
-        Step::Call(call) => call_step(rt, call, st, memory),
+        Step::Job(budget) => job_step(rt, budget, st, plant.parts(), memory),
+        Step::Call(call) => call_step(rt, call, st, plant.parts(), memory),
     }
 }
 
 fn run(rt: &impl Print, input: &[u8]) -> io::Result<()> {
-    let mut memory = Memory::new();
+    let mut plant = Plant::new();
+    // What `Memory::new` gives, written out: a function's result is copied, which takes as much of the stack again.
+    let mut memory = Memory {
+        work: [0; Limits::SUBPROBLEMS],
+        kept: [0; Limits::SUBPROBLEMS],
+        mapping: [Limits::NONE; Limits::ROWS],
+    };
     let mut st = State {
-        plant: Line::of(&[]),
         lent: 0,
         room: 0,
         job: JobRecord::fresh(),
@@ -192,7 +197,7 @@ fn run(rt: &impl Print, input: &[u8]) -> io::Result<()> {
     for line in Lines(input) {
         rt.write_all(line.name)?;
         print!(rt; ": ")?;
-        st = turn(rt, line, st, &mut memory)?;
+        st = turn(rt, line, st, &mut plant, &mut memory)?;
     }
     Ok(())
 }

@@ -3,6 +3,9 @@ use formats::bytes::byte_or_zero;
 use job_lines::numbers::{signed_at, unsigned_at};
 use model::JobRecord;
 
+// The most bytes that a step's numbers take: those of a record. What a line has beyond them is passed over.
+pub(crate) const NUMBERS: usize = 17;
+
 // The calls of a job, an advance with its budget.
 #[derive(Clone, Copy)]
 pub(crate) enum Call {
