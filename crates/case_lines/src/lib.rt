@@ -19,7 +19,7 @@ pub struct Line<'a> {
 pub struct Lines<'a>(pub &'a [u8]);
 
 // The place of the first c.
-fn place(s: &[u8], c: u8) -> Option<usize>
+fn first_place(s: &[u8], c: u8) -> Option<usize>
     ensures { result ≡ position (λ b. b == c) s.now }
 {
     s.iter().position(|b| *b == c)
@@ -32,7 +32,7 @@ fn cut(s: &[u8], c: u8) -> (&[u8], &[u8])
     ensures front { result.0.now ≡ take (length result.0.now) s.now }
     ensures shorter { 0 < length s.now → length result.1.now < length s.now }
 {
-    match place(s, c) {
+    match first_place(s, c) {
         Some(i) => (&s[..i], &s[i + 1..]),
         None => (s, &[]),
     }

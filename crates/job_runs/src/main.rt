@@ -46,9 +46,10 @@ fn answer(
     call: Call,
     st: State,
     parts: Parts<'_>,
-    work: &mut [i32],
-    mapping: &mut [u8],
+    memory: &mut Memory,
 ) -> io::Result<JobRecord> {
+    let work = &mut memory.work[..];
+    let mapping = &mut memory.mapping[..];
     let lent = st.lent.min(work.len());
     let room = st.room.min(mapping.len());
     match call {
@@ -99,7 +100,7 @@ fn call_step(
     memory: &mut Memory,
 ) -> io::Result<State> {
     memory.keep();
-    let job = answer(rt, call, st, parts, &mut memory.work, &mut memory.mapping)?;
+    let job = answer(rt, call, st, parts, memory)?;
     print_step(rt, st.job, job, memory)?;
     memory.clear_mapping();
     Ok(State { job, ..st })

@@ -27,6 +27,6 @@ impl Plant {
     }
 
     pub(crate) fn parts(&self) -> Parts<'_> {
-        split(&self.bytes[..self.len.min(ROOM)])
+        split(self.bytes.get(..self.len).unwrap_or(&[]))
     }
 }
