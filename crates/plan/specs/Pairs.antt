@@ -160,6 +160,10 @@ pub pair_against : (table : List ℕ) (i j : ℕ) → way_seen i ≢ way_seen j 
 unfolding edge_pair weighed is_forbidden weight_ok
 pair_against table i j e = record { is = λ r f u u' v v' a b. rw (agree_seen r f u u' v v' i j a b, ne_eqb (way_seen i) (way_seen j) e); ok = refl }
 
+-- w is the weight of the labels of such a pair, in any table, and r that of the pair
+pub record Agreed (i j : ℕ) (w r : ℤ) : Type 0 where
+  pub is : (table : List ℕ) → TablePassed table → label_seen i < edge_labels table → label_seen j < edge_labels table → w ≡ int32_at table (column (edge_row table (label_seen i)) (label_seen j)) → EdgePair table i j r
+
 -- ---- gains
 
 -- the greater of 0 and a weight, and 0 where it is forbidden

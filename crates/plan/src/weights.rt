@@ -6,10 +6,10 @@ ghost use Rattle.model.specs.Table.{edge_labels, edge_row};
 ghost use Rattle.trees.specs.Directions.{label_seen};
 ghost use Rattle.formats.specs.Table.{TablePassed};
 ghost use Rattle.plan.specs.Plan.{found_vertices, serial_in};
-ghost use Rattle.plan.specs.Pairs.{Recorded, RowOf, Weighable, PairWeighs, RowWeighable, RowWeighs, EdgePair, GainIs};
+ghost use Rattle.plan.specs.Pairs.{Recorded, RowOf, Weighable, PairWeighs, RowWeighable, RowWeighs, EdgePair, Agreed, GainIs};
 
 use crate::{Blocks, Plan, label, serial};
-use formats::table::{edge_row_at, vertex_row_at, weight_in_row};
+use formats::table::{edge_row_at, edge_weight_at, vertex_row_at, weight_in_row};
 use model::Limits;
 
 // What recorded vertex u has in all its pairs: where the weights of its label begin in the table, and its serial.
@@ -65,6 +65,29 @@ pub fn vertex_pair(table: &[u8], plan: &Plan, u: u8, v: u8) -> i32
     vertex_pair_in(table, plan, vertex_row(table, plan, u), v)
 }
 
+// The weight w of the labels of a recorded edge and a found edge, by what is seen of each from two ends that are partners; forbidden if their directions do
+// not agree.
+fn agreed(w: i32, i: u8, j: u8) -> i32
+    ensures { Agreed i j w result }
+{
+    let alike = i / Limits::DIRECTED == j / Limits::DIRECTED;
+    if alike {
+        return w;
+    }
+    Limits::FORBIDDEN
+}
+
+// The weight of the pair of a recorded edge and a found edge, by what is seen of each from two ends that are partners: forbidden if their directions do
+// not agree, else that of their labels.
+pub fn edge_pair(table: &[u8], i: u8, j: u8) -> i32
+    requires table_passed { TablePassed table.now }
+    requires i_bound { (label_seen i < edge_labels table.now) × (label_seen j < edge_labels table.now) }
+    ensures { EdgePair table.now i j result }
+{
+    let w = edge_weight_at(table, i % Limits::EDGE_LABELS, j % Limits::EDGE_LABELS);
+    agreed(w, i, j)
+}
+
 // What a recorded edge has in all its pairs: where the weights of its label begin in the table, and what is seen of it from one of its ends.
 #[derive(Clone, Copy)]
 pub struct EdgeRow {
@@ -85,8 +108,7 @@ pub fn edge_row(table: &[u8], i: u8) -> EdgeRow
     }
 }
 
-// The weight of the pair of a recorded edge, of which this is the row, and a found edge, by what is seen of each from two ends that are partners: forbidden
-// if their directions do not agree, else that of their labels.
+// The same as `edge_pair`, by the recorded edge's row: for many found edges the row is found once.
 pub fn edge_pair_in(table: &[u8], of: EdgeRow, j: u8) -> i32
     requires table_passed { TablePassed table.now }
     requires start_value { of.start ≡ edge_row table.now (label_seen of.seen) }
@@ -94,20 +116,7 @@ pub fn edge_pair_in(table: &[u8], of: EdgeRow, j: u8) -> i32
     ensures { EdgePair table.now of.seen j result }
 {
     let w = weight_in_row(table, of.start, j % Limits::EDGE_LABELS);
-    let alike = of.seen / Limits::DIRECTED == j / Limits::DIRECTED;
-    if alike {
-        return w;
-    }
-    Limits::FORBIDDEN
-}
-
-// The same by what is seen of the recorded edge.
-pub fn edge_pair(table: &[u8], i: u8, j: u8) -> i32
-    requires table_passed { TablePassed table.now }
-    requires i_bound { (label_seen i < edge_labels table.now) × (label_seen j < edge_labels table.now) }
-    ensures { EdgePair table.now i j result }
-{
-    edge_pair_in(table, edge_row(table, i), j)
+    agreed(w, of.seen, j)
 }
 
 // What an edge weight and a value gain. The forbidden number gains nothing: its sum with any number is below 0.
