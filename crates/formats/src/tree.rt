@@ -187,7 +187,7 @@ impl<'a> Records<'a> {
 
 // ---- item 6: no edge closes a cycle
 
-// The components with `to` in the place of `from`.
+// The components with `to` in the place of `from`. By a loop: an array's `map` takes forty times the instructions.
 fn merged(l: VertexTable, from: u8, to: u8) -> VertexTable
     ensures { result ≡ tab (λ x. cond (eqb (get_or l x 0) from) to (get_or l x 0)) vertex_limit }
 {

@@ -101,7 +101,7 @@ fn behind_one(neighbours: &PlaceTable, starts: &[u8; Limits::PREFIXES], v: u8, x
     }
 }
 
-// In each place of v's neighbours, where the subproblem behind it stands.
+// In each place of v's neighbours, where the subproblem behind it stands. By a loop, which costs less than an array's `map`.
 fn behind_row(neighbours: &PlaceTable, starts: &[u8; Limits::PREFIXES], v: u8) -> Row
     requires v_lt_vertex_limit { v < vertex_limit }
     requires by_index { (y : ℕ) → get_or starts.now y 0 ≤ width_limit }
